@@ -1,0 +1,39 @@
+//! What sources are opened from, by name.
+ghost use Rattle.std.specs.Prelude.{◌≡◌, ◌≤◌, List, ℕ, Option, IfOk, OnOk, IsErrOf};
+ghost use Rattle.ygm_io.specs.Faults.{Rose};
+
+use crate::Source;
+use std::alloc::{AllocError, AllocFailed};
+use thiserror::Error;
+
+/// Why a name couldn't be opened.
+#[derive(Clone, Copy, Debug, PartialEq, Eq, Error)]
+pub enum OpenFailed {
+    /// The count of faults of the files rose.
+    #[error("the file can't be opened")]
+    Failed,
+    #[error("out of memory")]
+    NoMemory,
+}
+
+/// What sources are opened from, by name. An open changes nothing of what the names hold, so that the
+/// same name may be opened again.
+pub trait Files {
+    type Src: Source + Send + Drop;
+
+    /// The bytes that a name holds, where the files tell them.
+    ghost content: { Self → List ℕ → Option (List ℕ) };
+
+    /// How often an open has failed, a count that never falls.
+    ghost faults: { Self → ℕ };
+
+    /// Opens the source that the name stands for.
+    fn open_named(&mut self, name: &str) -> Result<Self::Src, OpenFailed>
+        ensures bytes { IfOk result (λ src. Self.Src.left src ≡ content self.old name.now) }
+        ensures fresh { IfOk result (λ src. Self.Src.faults src ≡ 0) }
+        ensures same { (other : List ℕ) → content self.new other ≡ content self.old other }
+        ensures stands { OnOk result (faults self.new ≡ faults self.old) }
+        ensures stands_without_memory { IsErrOf result OpenFailed.NoMemory → faults self.new ≡ faults self.old }
+        ensures cause { IsErrOf result OpenFailed.Failed → Rose (faults self.old) (faults self.new) }
+        ensures never_falls { faults self.old ≤ faults self.new };
+}
