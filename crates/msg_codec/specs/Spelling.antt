@@ -1,0 +1,15 @@
+-- The bytes of letters: each its header and its body, one letter after another, nothing between.
+use Rattle.std.specs.Prelude.{ℕ, List, [], ◌∷◌, ◌++◌, length}
+use Rattle.std.specs.Int.{w32, to_le_bytes}
+use Rattle.std.specs.List.{flat_map}
+use Rattle.msg_codec.specs.declared.letter.Letter.{Letter}
+
+-- destination, sender, tag and the body's length, numbers with their least byte first
+abbrev pub header : Letter → List ℕ
+header l = to_le_bytes w32 l.to ++ to_le_bytes w32 l.from ++ l.tag ∷ to_le_bytes w32 (length l.body)
+
+abbrev pub spelled_letter : Letter → List ℕ
+spelled_letter l = header l ++ l.body
+
+abbrev pub spelling : List Letter → List ℕ
+spelling letters = flat_map spelled_letter letters

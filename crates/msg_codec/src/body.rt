@@ -1,0 +1,89 @@
+//! Lists of bytes: a letter's body, and a text without a limit.
+ghost use Rattle.std.specs.Prelude.{◌≡◌, ◌≤◌, List, ℕ, length, vec_len, IfOk};
+
+use std::alloc::{AllocError, Global};
+use std::marker::Model;
+
+/// The greatest number of bytes of a body.
+pub const MAX_BODY: usize = 1_048_576;
+
+/// A letter's body: at most `MAX_BODY` bytes.
+#[derive(Debug, Drop)]
+pub struct Body {
+    bytes: Vec<u8>,
+}
+
+impl Model for Body {
+    ghost Value = { List ℕ };
+
+    ghost view = { λ body. body.bytes.items };
+
+    ghost invariant = { λ body. length body.bytes.items ≤ 1048576 };
+}
+
+impl Body {
+    /// A copy of the bytes.
+    pub fn of(alloc: Global, bytes: &[u8]) -> Result<Body, AllocError>
+        requires { length bytes.now ≤ MAX_BODY }
+        ensures { IfOk result (λ body. body ≡ bytes.now) }
+    {
+        Ok(Body {
+            bytes: Vec::from_slice(alloc, bytes)?,
+        })
+    }
+
+    /// The bytes themselves, without a copy.
+    pub fn from_vec(bytes: Vec<u8>) -> Body
+        requires { vec_len bytes ≤ MAX_BODY }
+        ensures { result ≡ bytes.items }
+    {
+        Body { bytes }
+    }
+
+    pub fn as_slice(&self) -> &[u8]
+        ensures value { result.now ≡ self.now }
+        ensures bound { length self.now ≤ MAX_BODY }
+    {
+        self.bytes.as_slice()
+    }
+
+    pub fn into_vec(self) -> Vec<u8>
+        ensures value { result.items ≡ self }
+        ensures bound { vec_len result ≤ MAX_BODY }
+    {
+        self.bytes
+    }
+}
+
+/// A list of bytes without a limit, as a text is.
+#[derive(Debug, Drop)]
+pub struct Body2 {
+    bytes: Vec<u8>,
+}
+
+impl Model for Body2 {
+    ghost Value = { List ℕ };
+
+    ghost view = { λ body. body.bytes.items };
+}
+
+impl Body2 {
+    /// The bytes themselves, without a copy.
+    pub fn from_vec(bytes: Vec<u8>) -> Body2
+        ensures { result ≡ bytes.items }
+    {
+        Body2 { bytes }
+    }
+
+    pub fn as_slice(&self) -> &[u8]
+        ensures { result.now ≡ self.now }
+    {
+        self.bytes.as_slice()
+    }
+
+    pub fn into_vec(self) -> Vec<u8>
+        ensures { result.items ≡ self }
+    {
+        self.bytes
+    }
+}

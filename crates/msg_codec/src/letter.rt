@@ -1,0 +1,39 @@
+//! One message from a rank to a rank.
+ghost use Rattle.std.specs.Prelude.{◌≡◌, ◌≤◌, length};
+
+use crate::Body;
+
+/// A message of its own: the rank that it goes to, the rank that sent it, the tag that says what its
+/// body is, and the body.
+#[derive(Debug, Drop)]
+pub struct Letter {
+    pub to: u32,
+    pub from: u32,
+    pub tag: u8,
+    pub body: Body,
+}
+
+/// A message that lies elsewhere, as in a batch. Its body has at most `MAX_BODY` bytes.
+#[derive(Clone, Copy, Debug)]
+pub struct LetterRef<'a> {
+    pub to: u32,
+    pub from: u32,
+    pub tag: u8,
+    pub body: &'a [u8],
+    pub ghost short: { length body.now ≤ 1048576 },
+}
+
+impl Letter {
+    ghost use Rattle.msg_codec.specs.Letter.{letter_of};
+
+    pub fn as_ref(&self) -> LetterRef<'_>
+        ensures { letter_of result ≡ self.now }
+    {
+        LetterRef {
+            to: self.to,
+            from: self.from,
+            tag: self.tag,
+            body: self.body.as_slice(),
+        }
+    }
+}

@@ -1,0 +1,11 @@
+//! Letters and the batches that carry them, how they and the values in their bodies are spelled, and
+//! the counter that a rank counts its letters by.
+#![tactic(auto)]
+
+mod body;
+mod counter;
+mod letter;
+
+pub use body::{Body, Body2, MAX_BODY};
+pub use counter::{AtLimit, Counter};
+pub use letter::{Letter, LetterRef};
