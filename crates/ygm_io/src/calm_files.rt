@@ -1,7 +1,7 @@
 //! Files that never fail to open.
 ghost use Rattle.std.specs.Prelude.{◌≡◌, ◌≢◌, ◌++◌, [], ◌∷◌, List, ℕ, Some, OnOk, OnErr};
 ghost use Rattle.std.specs.Option.{option_map_or};
-ghost use Rattle.ygm_io.specs.Named.{added_last};
+ghost use Rattle.ygm_io.specs.Named.{last_named};
 
 use crate::named::{Named, add_named, find_named};
 use crate::{CalmSource, Files, OpenFailed};
@@ -25,12 +25,13 @@ impl CalmFiles {
         }
     }
 
-    #[tactic(auto, using(crate::proofs::Adding::last_same, crate::proofs::Adding::last_other))]
     /// Adds a file with a copy of `bytes`. Of files of one name the one that was added last is opened.
+    #[tactic(auto, using(crate::proofs::Adding::last_same, crate::proofs::Adding::last_other))]
     pub fn add(&mut self, name: &str, bytes: &[u8]) -> Result<(), AllocError>
-        ensures added { OnOk result (option_map_or (λ held. held.items) (added_last name.now self.new.files.items) [] ≡ bytes.now) }
+        ensures added { OnOk result
+            (option_map_or (λ held. held.items) (last_named name.now self.new.files.items) [] ≡ bytes.now) }
         ensures others { OnOk result ((other : List ℕ) → other ≢ name.now →
-            added_last other self.new.files.items ≡ added_last other self.old.files.items) }
+            last_named other self.new.files.items ≡ last_named other self.old.files.items) }
         ensures unchanged { OnErr result (self.new.files.items ≡ self.old.files.items) }
     {
         let held = bytes.to_vec(self.alloc)?;
@@ -41,10 +42,12 @@ impl CalmFiles {
 impl Files for CalmFiles {
     type Src = CalmSource;
 
-    ghost content = { λ files name. Some (option_map_or (λ held. held.items) (added_last name files.files.items) []) };
+    ghost content = { λ files name.
+        Some (option_map_or (λ held. held.items) (last_named name files.files.items) []) };
 
     ghost faults = { λ _. 0 };
 
+    /// Opens a copy of the file that was added last under the name, or no bytes where none was.
     fn open_named(&mut self, name: &str) -> Result<CalmSource, OpenFailed> {
         match find_named(&self.files, name) {
             Some(held) => Ok(CalmSource::new(self.alloc, held)?),

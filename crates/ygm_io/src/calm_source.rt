@@ -38,8 +38,10 @@ impl Source for CalmSource {
     /// Reads as many bytes as are left and fit.
     fn read(&mut self, into: &mut [u8]) -> Result<usize, Failed>
         ensures within { IfOk result (λ count. count ≤ length into.old) }
-        ensures taken { IfOk result (λ count. TakenFrom (take count into.new) (Some self.old.left) (Some self.new.left)) }
-        ensures end { IfOk result (λ count. count ≡ 0 → 0 < length into.old → NothingLeft (Some self.old.left)) }
+        ensures taken { IfOk result (λ count.
+            TakenFrom (take count into.new) (Some self.old.left) (Some self.new.left)) }
+        ensures end { IfOk result (λ count.
+            count ≡ 0 → 0 < length into.old → NothingLeft (Some self.old.left)) }
         ensures never_fails { OnErr result ⊥ }
         ensures as_many_as_fit { IfOk result (λ count. count ≡ min (length into.old) (length self.old.left)) }
         ensures behind { IfOk result (λ count. drop count into.new ≡ drop count into.old) }

@@ -1,9 +1,8 @@
 //! Files in memory.
 ghost use Rattle.std.specs.Prelude.{◌≡◌, ◌≤◌, ◌⊎◌, ◌++◌, [], ◌∷◌, List, ℕ, None, Some, IsSomeAnd, IfOk, OnOk, OnErr, IsErrOf};
-ghost use Rattle.std.specs.Option.{option_map};
 ghost use Rattle.ygm_io.specs.Faults.{Rose};
-ghost use Rattle.ygm_io.specs.Named.{File, added_last};
-ghost use Rattle.ygm_io.specs.Plan.{unused, called, failed, NextFails};
+ghost use Rattle.ygm_io.specs.Named.{File, last_named, bytes_named};
+ghost use Rattle.ygm_io.specs.Plan.{fresh_plan, after_call, after_fault, NextFails};
 
 use crate::named::{Named, add_named, find_named};
 use crate::plan::FaultPlan;
@@ -35,7 +34,7 @@ impl MemFile {
 
     fn open(&self, alloc: Global) -> Result<MemSource, AllocError>
         ensures bytes { IfOk result (λ source. source.left ≡ self.now.bytes) }
-        ensures plan { IfOk result (λ source. source.plan ≡ unused self.now.fails) }
+        ensures plan { IfOk result (λ source. source.plan ≡ fresh_plan self.now.fails) }
     {
         MemSource::new(alloc, &self.bytes, &self.fails)
     }
@@ -54,7 +53,7 @@ impl MemFiles {
     /// No files, and no open that is to fail.
     pub fn new(alloc: Global) -> MemFiles
         ensures empty { result.files.items ≡ [] }
-        ensures plan { result.plan ≡ unused [] }
+        ensures plan { result.plan ≡ fresh_plan [] }
     {
         MemFiles {
             alloc,
@@ -77,7 +76,8 @@ impl MemFiles {
 
     /// Adds an open that is to fail, by its number. Opens are counted from 0.
     pub fn fail_open(&mut self, call: u64) -> Result<(), AllocError>
-        ensures added { OnOk result (self.new.plan ≡ record self.old.plan { fails = self.old.plan.fails ++ call ∷ [] }) }
+        ensures added { OnOk result (self.new.plan
+            ≡ record self.old.plan { fails = self.old.plan.fails ++ call ∷ [] }) }
         ensures unchanged { OnErr result (self.new.plan ≡ self.old.plan) }
         ensures same_files { self.new.files.items ≡ self.old.files.items }
     {
@@ -95,31 +95,34 @@ impl MemFiles {
 impl Files for MemFiles {
     type Src = MemSource;
 
-    ghost content = { λ files name. option_map (λ file. file.bytes) (added_last name files.files.items) };
+    ghost content = { λ files name. bytes_named name files.files.items };
 
     ghost faults = { λ files. files.plan.faults };
 
     /// Opens a copy of the file that was added last under the name. It fails at the calls that were
     /// given and at a name that wasn't added, and there alone.
     fn open_named(&mut self, name: &str) -> Result<MemSource, OpenFailed>
-        ensures bytes { IfOk result (λ source. Some source.left ≡
-            option_map (λ file. file.bytes) (added_last name.now self.old.files.items)) }
+        ensures bytes { IfOk result (λ source. Some source.left ≡ bytes_named name.now self.old.files.items) }
         ensures fresh { IfOk result (λ source. source.plan.faults ≡ 0) }
         ensures same { (other : List ℕ) →
-            option_map (λ file. file.bytes) (added_last other self.new.files.items)
-            ≡ option_map (λ file. file.bytes) (added_last other self.old.files.items) }
+            bytes_named other self.new.files.items ≡ bytes_named other self.old.files.items }
         ensures stands { OnOk result (self.new.plan.faults ≡ self.old.plan.faults) }
-        ensures stands_without_memory { IsErrOf result OpenFailed.NoMemory → self.new.plan.faults ≡ self.old.plan.faults }
+        ensures stands_without_memory { IsErrOf result OpenFailed.NoMemory →
+            self.new.plan.faults ≡ self.old.plan.faults }
         ensures cause { IsErrOf result OpenFailed.Failed → Rose self.old.plan.faults self.new.plan.faults }
         ensures never_falls { self.old.plan.faults ≤ self.new.plan.faults }
         ensures at_listed_calls { NextFails self.old.plan → IsErrOf result OpenFailed.Failed }
-        ensures at_names_not_added { added_last name.now self.old.files.items ≡ None → IsErrOf result OpenFailed.Failed }
-        ensures nowhere_else { IsErrOf result OpenFailed.Failed → NextFails self.old.plan ⊎ (added_last name.now self.old.files.items ≡ None) }
-        ensures opened { IfOk result (λ source. IsSomeAnd (added_last name.now self.old.files.items)
-            (λ file. (source.left ≡ file.bytes) × (source.plan ≡ unused file.fails))) }
-        ensures counted { OnOk result (self.new.plan ≡ called self.old.plan) }
-        ensures counted_without_memory { IsErrOf result OpenFailed.NoMemory → self.new.plan ≡ called self.old.plan }
-        ensures counted_fault { IsErrOf result OpenFailed.Failed → self.new.plan ≡ failed self.old.plan }
+        ensures at_names_not_added { last_named name.now self.old.files.items ≡ None →
+            IsErrOf result OpenFailed.Failed }
+        ensures nowhere_else { IsErrOf result OpenFailed.Failed →
+            NextFails self.old.plan ⊎ (last_named name.now self.old.files.items ≡ None) }
+        ensures opened { IfOk result (λ source. IsSomeAnd (last_named name.now self.old.files.items)
+            (λ file. (source.left ≡ file.bytes) × (source.plan ≡ fresh_plan file.fails))) }
+        ensures counted { OnOk result (self.new.plan ≡ after_call self.old.plan) }
+        ensures counted_without_memory { IsErrOf result OpenFailed.NoMemory →
+            self.new.plan ≡ after_call self.old.plan }
+        ensures counted_fault { IsErrOf result OpenFailed.Failed →
+            self.new.plan ≡ after_fault self.old.plan }
         ensures same_files { self.new.files.items ≡ self.old.files.items }
     {
         let fails = self.plan.next_fails();

@@ -2,7 +2,7 @@
 ghost use Rattle.std.specs.Prelude.{◌≡◌, ◌<◌, ◌≤◌, ◌↔◌, List, ℕ, length, take, drop, min, Some, IsErr, IfOk, OnOk, OnErr};
 ghost use Rattle.ygm_io.specs.Content.{TakenFrom, NothingLeft};
 ghost use Rattle.ygm_io.specs.Faults.{Rose};
-ghost use Rattle.ygm_io.specs.Plan.{unused, called, failed, NextFails};
+ghost use Rattle.ygm_io.specs.Plan.{fresh_plan, after_call, after_fault, NextFails};
 
 use crate::plan::FaultPlan;
 use crate::unread::Unread;
@@ -21,7 +21,7 @@ impl MemSource {
     /// from 0.
     pub fn new(alloc: Global, bytes: &[u8], fails: &[u64]) -> Result<MemSource, AllocError>
         ensures bytes { IfOk result (λ source. source.left ≡ bytes.now) }
-        ensures plan { IfOk result (λ source. source.plan ≡ unused fails.now) }
+        ensures plan { IfOk result (λ source. source.plan ≡ fresh_plan fails.now) }
     {
         Ok(MemSource {
             left: Unread::new(alloc, bytes)?,
@@ -52,8 +52,10 @@ impl Source for MemSource {
     /// Reads as many bytes as are left and fit. It fails at the calls that it was given, and there alone.
     fn read(&mut self, into: &mut [u8]) -> Result<usize, Failed>
         ensures within { IfOk result (λ count. count ≤ length into.old) }
-        ensures taken { IfOk result (λ count. TakenFrom (take count into.new) (Some self.old.left) (Some self.new.left)) }
-        ensures end { IfOk result (λ count. count ≡ 0 → 0 < length into.old → NothingLeft (Some self.old.left)) }
+        ensures taken { IfOk result (λ count.
+            TakenFrom (take count into.new) (Some self.old.left) (Some self.new.left)) }
+        ensures end { IfOk result (λ count.
+            count ≡ 0 → 0 < length into.old → NothingLeft (Some self.old.left)) }
         ensures stands { OnOk result (self.new.plan.faults ≡ self.old.plan.faults) }
         ensures cause { OnErr result (Rose self.old.plan.faults self.new.plan.faults) }
         ensures unchanged { OnErr result (self.new.left ≡ self.old.left) }
@@ -62,8 +64,8 @@ impl Source for MemSource {
         ensures as_many_as_fit { IfOk result (λ count. count ≡ min (length into.old) (length self.old.left)) }
         ensures behind { IfOk result (λ count. drop count into.new ≡ drop count into.old) }
         ensures untouched { OnErr result (into.new ≡ into.old) }
-        ensures counted { OnOk result (self.new.plan ≡ called self.old.plan) }
-        ensures counted_fault { OnErr result (self.new.plan ≡ failed self.old.plan) }
+        ensures counted { OnOk result (self.new.plan ≡ after_call self.old.plan) }
+        ensures counted_fault { OnErr result (self.new.plan ≡ after_fault self.old.plan) }
     {
         if self.plan.next_fails() {
             self.plan.count_fault();

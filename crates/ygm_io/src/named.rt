@@ -1,7 +1,7 @@
 //! Values under names.
 ghost use Rattle.std.specs.Prelude.{◌≡◌, ◌++◌, [], ◌∷◌, List, ℕ, OnOk, OnErr, bytes_eq, string_bytes};
 ghost use Rattle.std.specs.Option.{option_copied};
-ghost use Rattle.ygm_io.specs.Named.{added_last};
+ghost use Rattle.ygm_io.specs.Named.{last_named};
 
 use std::alloc::{AllocError, Global};
 use std::marker::Model;
@@ -50,7 +50,7 @@ pub fn add_named<T: Drop>(
 
 /// The value that was added last under a name.
 pub fn find_named<'a, T>(added: &'a [Named<T>], name: &str) -> Option<&'a T>
-    ensures { option_copied result ≡ added_last name.now added.now }
+    ensures { option_copied result ≡ last_named name.now added.now }
 {
     added
         .iter()

@@ -1,7 +1,7 @@
 //! Which calls of an object are to fail.
 ghost use Rattle.std.specs.Prelude.{◌≡◌, ◌≤◌, ◌↔◌, ◌++◌, [], ◌∷◌, IfOk, OnOk, OnErr, IsTrue};
-ghost use Rattle.ygm_io.specs.Faults.{raised};
-ghost use Rattle.ygm_io.specs.Plan.{Plan, unused, NextFails};
+ghost use Rattle.ygm_io.specs.Faults.{next_count};
+ghost use Rattle.ygm_io.specs.Plan.{Plan, fresh_plan, NextFails};
 
 use std::alloc::{AllocError, Global};
 use std::marker::Model;
@@ -18,12 +18,13 @@ pub struct FaultPlan {
 impl Model for FaultPlan {
     ghost Value = { Plan };
 
-    ghost view = { λ plan. record { fails = plan.fails.items; calls = plan.calls; faults = plan.faults } };
+    ghost view = { λ plan.
+        record { fails = plan.fails.items; calls = plan.calls; faults = plan.faults } };
 }
 
 impl FaultPlan {
     pub fn new(alloc: Global, fails: &[u64]) -> Result<FaultPlan, AllocError>
-        ensures { IfOk result (λ plan. plan ≡ unused fails.now) }
+        ensures { IfOk result (λ plan. plan ≡ fresh_plan fails.now) }
     {
         Ok(FaultPlan {
             fails: fails.to_vec(alloc)?,
@@ -33,7 +34,7 @@ impl FaultPlan {
     }
 
     pub fn without_faults(alloc: Global) -> FaultPlan
-        ensures { result ≡ unused [] }
+        ensures { result ≡ fresh_plan [] }
     {
         FaultPlan {
             fails: Vec::new(alloc),
@@ -54,7 +55,7 @@ impl FaultPlan {
     /// Counts a call, and answers whether it is to fail.
     pub fn next_fails(&mut self) -> bool
         ensures listed { IsTrue result ↔ NextFails self.old }
-        ensures counted { self.new ≡ record self.old { calls = raised self.old.calls } }
+        ensures counted { self.new ≡ record self.old { calls = next_count self.old.calls } }
     {
         let call = self.calls;
         self.calls = call.saturating_add(1);
@@ -63,7 +64,7 @@ impl FaultPlan {
 
     /// Counts a fault.
     pub fn count_fault(&mut self)
-        ensures counted { self.new ≡ record self.old { faults = raised self.old.faults } }
+        ensures counted { self.new ≡ record self.old { faults = next_count self.old.faults } }
         ensures never_falls { self.old.faults ≤ self.new.faults }
     {
         self.faults = self.faults.saturating_add(1);

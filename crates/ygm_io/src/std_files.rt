@@ -39,7 +39,8 @@ where
 
     ghost faults = { λ files. files.faults };
 
-    /// Opens a file for reading. An open that a signal interrupts is tried again.
+    /// Opens a file for reading. An open that a signal interrupts is tried again, and one to which the
+    /// system refuses memory is `NoMemory`.
     fn open_named(&mut self, name: &str) -> Result<StdSource<R::File>, OpenFailed> {
         for _ in 0..u64::MAX {
             match fs::open(&self.runtime, name) {

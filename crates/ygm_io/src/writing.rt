@@ -21,7 +21,8 @@ pub fn write_all<K: Sink>(sink: &mut K, bytes: &[u8]) -> Result<(), WriteFault>
     ensures all { OnOk result (AppendedTo bytes.now (K.holds sink.old) (K.holds sink.new)) }
     ensures stands { OnOk result (K.faults sink.new ≡ K.faults sink.old) }
     ensures short { IfErr result (λ fault. fault.written < length bytes.now) }
-    ensures front { IfErr result (λ fault. AppendedTo (take fault.written bytes.now) (K.holds sink.old) (K.holds sink.new)) }
+    ensures front { IfErr result (λ fault.
+        AppendedTo (take fault.written bytes.now) (K.holds sink.old) (K.holds sink.new)) }
     ensures cause { OnErr result (Rose (K.faults sink.old) (K.faults sink.new)) }
     ensures never_falls { K.faults sink.old ≤ K.faults sink.new }
 {
