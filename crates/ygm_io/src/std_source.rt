@@ -1,5 +1,7 @@
 //! A source over a reader of std.
-ghost use Rattle.std.specs.Prelude.{◌≡◌, None};
+ghost use Rattle.std.specs.Prelude.{◌≡◌, ◌≤◌, length, None, IfOk, OnOk, OnErr};
+ghost use Rattle.std.specs.Io.KnownBytes.{ReadConsumes};
+ghost use Rattle.ygm_io.specs.Faults.{Rose};
 
 use crate::{Failed, Source};
 use std::io::{ErrorKind, Read};
@@ -33,7 +35,15 @@ impl<R: Read> Source for StdSource<R> {
     ghost faults = { λ source. source.faults };
 
     /// One read of the reader. A read that a signal interrupts is tried again.
-    fn read(&mut self, into: &mut [u8]) -> Result<usize, Failed> {
+    #[tactic(auto, using(crate::proofs::Passing::keeps_on, crate::proofs::Passing::consumes_on))]
+    fn read(&mut self, into: &mut [u8]) -> Result<usize, Failed>
+        ensures within { IfOk result (λ count. count ≤ length into.old) }
+        ensures stands { OnOk result (self.new.faults ≡ self.old.faults) }
+        ensures cause { OnErr result (Rose self.old.faults self.new.faults) }
+        ensures never_falls { self.old.faults ≤ self.new.faults }
+        // where the reader's bytes are known, they are passed on
+        ensures passed_on { ReadConsumes (R.remaining self.old.reader) (R.remaining self.new.reader) result into.new }
+    {
         for _ in 0..u64::MAX {
             match self.reader.read(into) {
                 Ok(count) => return Ok(count),
