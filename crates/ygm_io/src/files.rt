@@ -1,9 +1,10 @@
 //! What sources are opened from, by name.
 ghost use Rattle.std.specs.Prelude.{◌≡◌, ◌≤◌, List, ℕ, Option, IfOk, OnOk, IsErrOf};
 ghost use Rattle.ygm_io.specs.Faults.{Rose};
+ghost use Rattle.ygm_io.specs.declared.files.OpenFailed.TheVariants.{NoMemory};
 
 use crate::Source;
-use std::alloc::{AllocError, AllocFailed};
+use std::alloc::AllocError;
 use thiserror::Error;
 
 /// Why a name couldn't be opened.
@@ -14,6 +15,14 @@ pub enum OpenFailed {
     Failed,
     #[error("out of memory")]
     NoMemory,
+}
+
+impl From<AllocError> for OpenFailed {
+    ghost from_gives = { λ _ error. error ≡ NoMemory };
+
+    fn from(_: AllocError) -> OpenFailed {
+        OpenFailed::NoMemory
+    }
 }
 
 /// What sources are opened from, by name. An open changes nothing of what the names hold, so that the

@@ -1,0 +1,51 @@
+//! A source that never fails.
+ghost use Rattle.std.specs.Prelude.{◌≡◌, ◌<◌, ◌≤◌, List, ℕ, length, take, drop, min, Some, IfOk, OnErr};
+ghost use Rattle.ygm_io.specs.Content.{TakenFrom, NothingLeft};
+
+use crate::unread::Unread;
+use crate::{Failed, Source};
+use std::alloc::{AllocError, Global};
+
+/// A source in memory that never fails.
+#[derive(Debug, Drop)]
+pub struct CalmSource {
+    left: Unread,
+}
+
+impl CalmSource {
+    /// A source of a copy of `bytes`.
+    pub fn new(alloc: Global, bytes: &[u8]) -> Result<CalmSource, AllocError>
+        ensures { IfOk result (λ source. source.left ≡ bytes.now) }
+    {
+        Ok(CalmSource {
+            left: Unread::new(alloc, bytes)?,
+        })
+    }
+
+    /// The bytes that are left.
+    pub fn left(&self) -> &[u8]
+        ensures { result.now ≡ self.now.left }
+    {
+        self.left.as_slice()
+    }
+}
+
+impl Source for CalmSource {
+    ghost left = { λ source. Some source.left };
+
+    ghost faults = { λ _. 0 };
+
+    /// Reads as many bytes as are left and fit.
+    fn read(&mut self, into: &mut [u8]) -> Result<usize, Failed>
+        ensures within { IfOk result (λ count. count ≤ length into.old) }
+        ensures taken { IfOk result (λ count.
+            TakenFrom (take count into.new) (Some self.old.left) (Some self.new.left)) }
+        ensures end { IfOk result (λ count.
+            count ≡ 0 → 0 < length into.old → NothingLeft (Some self.old.left)) }
+        ensures never_fails { OnErr result ⊥ }
+        ensures as_many_as_fit { IfOk result (λ count. count ≡ min (length into.old) (length self.old.left)) }
+        ensures behind { IfOk result (λ count. drop count into.new ≡ drop count into.old) }
+    {
+        Ok(self.left.move_into(into))
+    }
+}

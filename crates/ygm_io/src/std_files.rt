@@ -1,0 +1,58 @@
+//! The files of the system.
+ghost use Rattle.std.specs.Prelude.{◌≡◌, None};
+
+use crate::{Files, OpenFailed, StdSource};
+use std::fs;
+use std::io::ErrorKind;
+
+/// The files of the system, by their paths. They tell no bytes, and their count of faults stands still
+/// at `u64::MAX`.
+#[derive(Debug, Drop)]
+pub struct StdFiles<R> {
+    runtime: R,
+    faults: u64,
+}
+
+impl<R: std::rt::Files> StdFiles<R> {
+    pub fn new(runtime: R) -> StdFiles<R>
+        ensures fresh { result.faults ≡ 0 }
+        ensures same { result.runtime ≡ runtime }
+    {
+        StdFiles { runtime, faults: 0 }
+    }
+
+    /// How often an open has failed.
+    pub fn faults(&self) -> u64
+        ensures { result ≡ self.now.faults }
+    {
+        self.faults
+    }
+}
+
+impl<R: std::rt::Files> Files for StdFiles<R>
+where
+    R::File: Send,
+{
+    type Src = StdSource<R::File>;
+
+    ghost content = { λ _ _. None };
+
+    ghost faults = { λ files. files.faults };
+
+    /// Opens a file for reading. An open that a signal interrupts is tried again, and one to which the
+    /// system refuses memory is `NoMemory`.
+    fn open_named(&mut self, name: &str) -> Result<StdSource<R::File>, OpenFailed> {
+        for _ in 0..u64::MAX {
+            match fs::open(&self.runtime, name) {
+                Ok(file) => return Ok(StdSource::new(file)),
+                Err(error) => match error.kind() {
+                    ErrorKind::Interrupted => {}
+                    ErrorKind::OutOfMemory => return Err(OpenFailed::NoMemory),
+                    _ => break,
+                },
+            }
+        }
+        self.faults = self.faults.saturating_add(1);
+        Err(OpenFailed::Failed)
+    }
+}

@@ -1,0 +1,62 @@
+//! A sink over a writer of std.
+ghost use Rattle.std.specs.Prelude.{◌≡◌, ◌<◌, ◌≤◌, length, None, IfOk, OnOk, OnErr};
+ghost use Rattle.std.specs.Io.KnownBytes.{WriteAppends};
+ghost use Rattle.ygm_io.specs.Faults.{Rose};
+
+use crate::{Failed, Sink};
+use std::io::{ErrorKind, Write};
+
+/// A sink over a writer of std. It tells no bytes, and its count of faults stands still at `u64::MAX`.
+///
+/// The writer has to be one without a buffer: it is never flushed, so bytes that a buffer still holds
+/// would count as written.
+#[derive(Debug, Drop)]
+pub struct StdSink<W> {
+    writer: W,
+    faults: u64,
+}
+
+impl<W: Write> StdSink<W> {
+    pub fn new(writer: W) -> StdSink<W>
+        ensures fresh { result.faults ≡ 0 }
+        ensures same { result.writer ≡ writer }
+    {
+        StdSink { writer, faults: 0 }
+    }
+
+    /// How often a write has failed.
+    pub fn faults(&self) -> u64
+        ensures { result ≡ self.now.faults }
+    {
+        self.faults
+    }
+}
+
+impl<W: Write> Sink for StdSink<W> {
+    ghost holds = { λ _. None };
+
+    ghost faults = { λ sink. sink.faults };
+
+    /// One write of the writer. A write that a signal interrupts is tried again, and one that takes no
+    /// byte of a piece that isn't empty is a fault.
+    #[tactic(auto, using(crate::proofs::Passing::keeps_on, crate::proofs::Passing::appends_on, crate::proofs::Passing::appends_nothing))]
+    fn write(&mut self, bytes: &[u8]) -> Result<usize, Failed>
+        ensures within { IfOk result (λ count. count ≤ length bytes.now) }
+        ensures progress { IfOk result (λ count. 0 < length bytes.now → 0 < count) }
+        ensures stands { OnOk result (self.new.faults ≡ self.old.faults) }
+        ensures cause { OnErr result (Rose self.old.faults self.new.faults) }
+        ensures never_falls { self.old.faults ≤ self.new.faults }
+        // where the writer's bytes are known, they are passed on
+        ensures passed_on { WriteAppends (W.contents self.old.writer) (W.contents self.new.writer) result bytes.now }
+    {
+        for _ in 0..u64::MAX {
+            match self.writer.write(bytes) {
+                Ok(count) if count > 0 || bytes.is_empty() => return Ok(count),
+                Err(error) if error.kind() == ErrorKind::Interrupted => {}
+                _ => break,
+            }
+        }
+        self.faults = self.faults.saturating_add(1);
+        Err(Failed)
+    }
+}

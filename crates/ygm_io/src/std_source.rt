@@ -1,0 +1,57 @@
+//! A source over a reader of std.
+ghost use Rattle.std.specs.Prelude.{◌≡◌, ◌≤◌, length, None, IfOk, OnOk, OnErr};
+ghost use Rattle.std.specs.Io.KnownBytes.{ReadConsumes};
+ghost use Rattle.ygm_io.specs.Faults.{Rose};
+
+use crate::{Failed, Source};
+use std::io::{ErrorKind, Read};
+
+/// A source over a reader of std. It tells no bytes, and its count of faults stands still at `u64::MAX`.
+#[derive(Debug, Drop)]
+pub struct StdSource<R> {
+    reader: R,
+    faults: u64,
+}
+
+impl<R: Read> StdSource<R> {
+    pub fn new(reader: R) -> StdSource<R>
+        ensures fresh { result.faults ≡ 0 }
+        ensures same { result.reader ≡ reader }
+    {
+        StdSource { reader, faults: 0 }
+    }
+
+    /// How often a read has failed.
+    pub fn faults(&self) -> u64
+        ensures { result ≡ self.now.faults }
+    {
+        self.faults
+    }
+}
+
+impl<R: Read> Source for StdSource<R> {
+    ghost left = { λ _. None };
+
+    ghost faults = { λ source. source.faults };
+
+    /// One read of the reader. A read that a signal interrupts is tried again.
+    #[tactic(auto, using(crate::proofs::Passing::keeps_on, crate::proofs::Passing::consumes_on))]
+    fn read(&mut self, into: &mut [u8]) -> Result<usize, Failed>
+        ensures within { IfOk result (λ count. count ≤ length into.old) }
+        ensures stands { OnOk result (self.new.faults ≡ self.old.faults) }
+        ensures cause { OnErr result (Rose self.old.faults self.new.faults) }
+        ensures never_falls { self.old.faults ≤ self.new.faults }
+        // where the reader's bytes are known, they are passed on
+        ensures passed_on { ReadConsumes (R.remaining self.old.reader) (R.remaining self.new.reader) result into.new }
+    {
+        for _ in 0..u64::MAX {
+            match self.reader.read(into) {
+                Ok(count) => return Ok(count),
+                Err(error) if error.kind() == ErrorKind::Interrupted => {}
+                Err(_) => break,
+            }
+        }
+        self.faults = self.faults.saturating_add(1);
+        Err(Failed)
+    }
+}

@@ -1,0 +1,50 @@
+//! Bytes that are read from the front.
+ghost use Rattle.std.specs.Prelude.{◌≡◌, ◌≤◌, ◌++◌, List, ℕ, length, take, drop, min, IfOk, vec_len};
+
+use std::alloc::{AllocError, Global};
+use std::marker::Model;
+
+/// Bytes that lie in memory, and how many of them were read.
+#[derive(Debug, Drop)]
+pub struct Unread {
+    bytes: Vec<u8>,
+    read: usize,
+}
+
+impl Model for Unread {
+    ghost Value = { List ℕ };
+
+    ghost view = { λ unread. drop unread.read unread.bytes.items };
+
+    ghost invariant = { λ unread. unread.read ≤ length unread.bytes.items };
+}
+
+impl Unread {
+    pub fn new(alloc: Global, bytes: &[u8]) -> Result<Unread, AllocError>
+        ensures { IfOk result (λ unread. unread ≡ bytes.now) }
+    {
+        Ok(Unread {
+            bytes: bytes.to_vec(alloc)?,
+            read: 0,
+        })
+    }
+
+    pub fn as_slice(&self) -> &[u8]
+        ensures { result.now ≡ self.now }
+    {
+        &self.bytes[self.read..]
+    }
+
+    /// Moves as many bytes as fit to the front of `into`, and answers how many.
+    pub fn move_into(&mut self, into: &mut [u8]) -> usize
+        ensures count { result ≡ min (length into.old) (length self.old) }
+        ensures moved { into.new ≡ take result self.old ++ drop result into.old }
+        ensures rest { self.new ≡ drop result self.old }
+    {
+        let count = into.len().min(self.bytes.len() - self.read);
+        let end = self.read + count;
+        into[..count].copy_from_slice(&self.bytes[self.read..end]);
+        self.read = end;
+        count
+    }
+}
