@@ -1,8 +1,9 @@
 -- The links between ranks: for each pair, the letters that were sent over it and haven't run, in order.
-use Rattle.std.specs.Prelude.{◌≡◌, ℕ, ◌+◌, ◌*◌, ◌<◌, List, [], slice_index_or}
+use Rattle.std.specs.Prelude.{◌≡◌, ℕ, ◌+◌, ◌*◌, ◌<◌, List, [], length, slice_index_or, slice_set}
 use Rattle.std.specs.List.{AllByRecursion}
 use Rattle.msg_codec.specs.declared.letter.Letter.{Letter}
 
+-- a list for each link, those of one sender after one another
 pub record Links : Type 0 where
   pub ranks : ℕ
   pub lists : List (List Letter)
@@ -15,12 +16,16 @@ place ranks from to = from * ranks + to
 abbrev pub waiting : Links → ℕ → ℕ → List Letter
 waiting links from to = slice_index_or links.lists (place links.ranks from to) []
 
+-- the same links with other letters in that one
+abbrev pub with_waiting : Links → ℕ → ℕ → List Letter → Links
+with_waiting links from to letters = record { ranks = links.ranks; lists = slice_set links.lists (place links.ranks from to) letters }
+
 -- the letter is from that rank and to that rank
 pub record IsBetween (from to : ℕ) (l : Letter) : Type 0 where
   pub sender : l.from ≡ from
   pub destination : l.to ≡ to
 
--- each letter that waits in a link is of the link's ends
-abbrev pub IsAddressed : Links → Type 0
-IsAddressed links =
-    (from to : ℕ) → from < links.ranks → to < links.ranks → AllByRecursion (IsBetween from to) (waiting links from to)
+-- there is a list for each pair, and each letter that waits is of its link's ends
+pub record IsGrid (links : Links) : Type 0 where
+  pub square : length links.lists ≡ links.ranks * links.ranks
+  pub addressed : (from to : ℕ) → from < links.ranks → to < links.ranks → AllByRecursion (IsBetween from to) (waiting links from to)

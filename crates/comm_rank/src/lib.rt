@@ -6,4 +6,5 @@ mod handler;
 mod lists;
 
 pub use handler::{Handler, Outbound, Outgoing};
+
 pub use lists::Lists;
