@@ -2,9 +2,10 @@
 //! that runs what waits.
 #![tactic(auto)]
 
+mod fault;
 mod handler;
 mod lists;
 
+pub use fault::CommFault;
 pub use handler::{Handler, Outbound, Outgoing};
-
 pub use lists::Lists;

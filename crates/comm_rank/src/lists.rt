@@ -1,9 +1,10 @@
 //! The links between ranks as plain lists of batches, all on one thread.
-ghost use Rattle.std.specs.Prelude.{◌≡◌, ◌<◌, ◌≤◌, ◌+◌, ◌*◌, ◌^◌, ℕ, List, [], ◌∷◌, ◌++◌, length, Some, IfOk, OnOk, OnErr, slice_get, slice_set, take, drop};
+ghost use Rattle.std.specs.Prelude.{◌≡◌, ◌<◌, ◌≤◌, ◌+◌, ◌*◌, ◌^◌, ℕ, List, [], ◌∷◌, ◌++◌, length, Some, IfOk, IfErr, IsErr, OnOk, OnErr, slice_get, slice_set, take, drop};
 ghost use Rattle.std.specs.VecDeque.{deque_len};
 ghost use Rattle.comm_rank.specs.Links.{place};
 
-use msg_codec::{Batch, LetterRef};
+use crate::CommFault;
+use msg_codec::{Batch, Counter, LetterRef};
 use std::alloc::{AllocError, Global};
 use std::collections::VecDeque;
 use std::marker::Model;
@@ -27,6 +28,7 @@ impl Model for Link {
 }
 
 impl Link {
+    ghost use Rattle.comm_rank.specs.Fault.{IsFullAt};
     ghost use Rattle.msg_codec.specs.Letter.{letter_of};
 
     fn new(alloc: Global) -> Link
@@ -43,13 +45,20 @@ impl Link {
         self.batches.len()
     }
 
-    /// Puts a batch of one letter behind the others.
-    fn put(&mut self, batch: Batch) -> Result<(), AllocError>
+    /// Counts a batch of one letter as sent, and puts it behind the others.
+    fn put(&mut self, batch: Batch, sent: &mut Counter) -> Result<(), CommFault>
         requires { length batch ≡ 1 }
         ensures ok { OnOk result (self.new ≡ self.old ++ batch) }
         ensures err { OnErr result (self.new ≡ self.old) }
+        ensures counted { OnOk result (sent.new.count ≡ sent.old.count + 1) }
+        ensures not_counted { OnErr result (sent.new.count ≡ sent.old.count) }
+        ensures limit { sent.new.limit ≡ sent.old.limit }
+        ensures cause { IfErr result (IsFullAt sent.old.count sent.old.limit) }
+        ensures full { sent.old.limit < sent.old.count + 1 → IsErr result }
     {
-        self.batches.push_back(batch)?;
+        self.batches.reserve(1)?;
+        sent.raise(1)?;
+        self.batches.push_back_reserved(batch);
         Ok(())
     }
 
@@ -98,6 +107,7 @@ fn place_of(ranks: u32, from: u32, to: u32) -> usize
 }
 
 impl Lists {
+    ghost use Rattle.comm_rank.specs.Fault.{IsFullAt};
     ghost use Rattle.msg_codec.specs.Letter.{letter_of};
     ghost use Rattle.std.specs.Prelude.{replicate, Some};
     ghost use Rattle.comm_rank.specs.Links.{waiting, with_waiting, IsBetween};
@@ -131,17 +141,28 @@ impl Lists {
         link.len()
     }
 
-    /// Puts a batch of one letter into its link, behind what waits there.
-    pub(crate) fn put(&mut self, from: u32, to: u32, batch: Batch) -> Result<(), AllocError>
+    /// Counts a batch of one letter as sent, and puts it into its link, behind what waits there.
+    pub(crate) fn put(
+        &mut self,
+        from: u32,
+        to: u32,
+        batch: Batch,
+        sent: &mut Counter,
+    ) -> Result<(), CommFault>
         requires sender { from < self.old.ranks }
         requires destination { to < self.old.ranks }
         requires one { (l : _) × (batch ≡ l ∷ []) × IsBetween from to l }
         ensures ok { OnOk result (self.new ≡ with_waiting self.old from to (waiting self.old from to ++ batch)) }
         ensures err { OnErr result (self.new ≡ self.old) }
+        ensures counted { OnOk result (sent.new.count ≡ sent.old.count + 1) }
+        ensures not_counted { OnErr result (sent.new.count ≡ sent.old.count) }
+        ensures limit { sent.new.limit ≡ sent.old.limit }
+        ensures cause { IfErr result (IsFullAt sent.old.count sent.old.limit) }
+        ensures full { sent.old.limit < sent.old.count + 1 → IsErr result }
     {
         let place = place_of(self.ranks, from, to);
         let link = &mut self.links[place];
-        link.put(batch)
+        link.put(batch, sent)
     }
 
     /// The letter that waits first in a link.
