@@ -22,14 +22,21 @@ pub struct Outgoing {
 }
 
 impl Model for Outgoing {
-    ghost use Rattle.comm_rank.specs.Sends.{Sends};
+    ghost use Rattle.std.specs.List.{AllByRecursion};
+    ghost use Rattle.comm_rank.specs.Sends.{Sends, IsData};
 
     ghost Value = { Sends };
 
     ghost view = { λ out. record { ranks = out.ranks; letters = out.letters.items } };
+
+    ghost invariant = { λ out. AllByRecursion (IsData out.ranks) out.letters.items };
 }
 
 impl Outgoing {
+    ghost use Rattle.std.specs.Prelude.{Some, map, slice_get};
+    ghost use Rattle.msg_codec.specs.Letter.{letter_of};
+    ghost use Rattle.comm_rank.specs.Fold.{letter_by};
+
     /// No letters, in a world of so many ranks.
     pub fn new(alloc: Global, ranks: u32) -> Outgoing
         ensures ranks { result.ranks ≡ ranks }
@@ -65,6 +72,22 @@ impl Outgoing {
         ensures { result ≡ length self.now.letters }
     {
         self.letters.len() as u64
+    }
+
+    /// The letter that was sent as number `k`, from 0, with its sender.
+    pub(crate) fn letter(&self, here: u32, k: u64) -> LetterRef<'_>
+        requires { k < length self.now.letters }
+        ensures letter { slice_get (map (letter_by here) self.now.letters) k ≡ Some (letter_of result) }
+        ensures destination { result.to < self.now.ranks }
+        ensures sender { result.from ≡ here }
+    {
+        let sent = &self.letters[k as usize];
+        LetterRef {
+            to: sent.to,
+            from: here,
+            tag: sent.tag,
+            body: sent.body.as_slice(),
+        }
     }
 
     /// Keeps the first `count` letters, so that a handler can take back what it sent before a refusal.
