@@ -2,10 +2,12 @@
 //! that runs what waits.
 #![tactic(auto)]
 
+mod comm;
 mod fault;
 mod handler;
 mod lists;
 
+pub use comm::{Comm, MOST_LETTERS, NotMade};
 pub use fault::CommFault;
 pub use handler::{Handler, Outbound, Outgoing};
 pub use lists::Lists;

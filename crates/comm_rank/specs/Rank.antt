@@ -1,0 +1,21 @@
+-- What is seen of a rank: its number, the number of ranks, what its handler keeps, and how many letters
+-- it has sent.
+use Rattle.std.specs.Prelude.{◌≡◌, ℕ}
+use Rattle.comm_rank.specs.declared.comm.Comm.{Comm}
+
+abbrev pub rank_of : {H : Type 0} → Comm H → ℕ
+rank_of comm = comm.here
+
+abbrev pub ranks_of : {H : Type 0} → Comm H → ℕ
+ranks_of comm = comm.ranks
+
+abbrev pub contents_of : {H : Type 0} → Comm H → H
+contents_of comm = comm.handler
+
+abbrev pub sent_count_of : {H : Type 0} → Comm H → ℕ
+sent_count_of comm = comm.sent.count
+
+-- the same rank of the same world
+pub record IsSameRank {H : Type 0} (old new : Comm H) : Type 0 where
+  pub rank : rank_of new ≡ rank_of old
+  pub ranks : ranks_of new ≡ ranks_of old
