@@ -1,5 +1,5 @@
 -- The links between ranks: for each pair, the letters that were sent over it and haven't run, in order.
-use Rattle.std.specs.Prelude.{◌≡◌, ℕ, ◌+◌, ◌*◌, ◌<◌, List, [], length, slice_index_or, slice_set}
+use Rattle.std.specs.Prelude.{◌≡◌, ℕ, ◌+◌, ◌*◌, ◌<◌, List, [], length, slice_index_or}
 use Rattle.std.specs.List.{AllByRecursion}
 use Rattle.msg_codec.specs.declared.letter.Letter.{Letter}
 
@@ -16,9 +16,11 @@ place ranks from to = from * ranks + to
 abbrev pub waiting : Links → ℕ → ℕ → List Letter
 waiting links from to = slice_index_or links.lists (place links.ranks from to) []
 
--- the same links with other letters in that one
-abbrev pub with_waiting : Links → ℕ → ℕ → List Letter → Links
-with_waiting links from to letters = record { ranks = links.ranks; lists = slice_set links.lists (place links.ranks from to) letters }
+-- other letters wait in that link now, and the other links stand
+pub record ChangesLink (from to : ℕ) (old new : Links) (letters : List Letter) : Type 0 where
+  pub ranks : new.ranks ≡ old.ranks
+  pub changed : waiting new from to ≡ letters
+  pub others : (i j : ℕ) → i < old.ranks → j < old.ranks → (i ≡ from → j ≡ to → ⊥) → waiting new i j ≡ waiting old i j
 
 -- the letter is from that rank and to that rank
 pub record IsBetween (from to : ℕ) (l : Letter) : Type 0 where

@@ -1,6 +1,6 @@
 //! One rank of a world.
 ghost use Rattle.std.specs.Prelude.{◌≡◌, ◌<◌, ◌≤◌, ◌+◌, ◌-◌, ◌*◌, ◌^◌, ℕ, List, [], ◌∷◌, ◌++◌, length, drop, take, Some, IfOk, IfErr, IsErr, OnOk, OnErr, slice_get};
-ghost use Rattle.comm_rank.specs.Links.{waiting, with_waiting};
+ghost use Rattle.comm_rank.specs.Links.{waiting, ChangesLink};
 ghost use Rattle.comm_rank.specs.Fault.{IsFullAt};
 ghost use Rattle.msg_codec.specs.Letter.{letter_of};
 
@@ -41,7 +41,7 @@ fn carry(
 ) -> Result<(), CommFault>
     requires sender { letter.from < lists.old.ranks }
     requires destination { letter.to < lists.old.ranks }
-    ensures ok { OnOk result (lists.new ≡ with_waiting lists.old letter.entry.from letter.entry.to
+    ensures ok { OnOk result (ChangesLink letter.entry.from letter.entry.to lists.old lists.new
         (waiting lists.old letter.entry.from letter.entry.to ++ letter_of letter.entry ∷ [])) }
     ensures err { OnErr result (lists.new ≡ lists.old) }
     ensures counted { OnOk result (sent.new.count ≡ sent.old.count + 1) }
@@ -91,7 +91,7 @@ impl<H: Handler> Comm<H> {
         requires destination { to < ranks_of self.old }
         requires data { tag < 240 }
         requires world { lists.old.ranks ≡ ranks_of self.old }
-        ensures sent { OnOk result (lists.new ≡ with_waiting lists.old (rank_of self.old) to
+        ensures sent { OnOk result (ChangesLink (rank_of self.old) to lists.old lists.new
             (waiting lists.old (rank_of self.old) to ++ record { to = to; from = rank_of self.old; tag = tag; body = body } ∷ [])) }
         ensures counted { OnOk result (sent_count_of self.new ≡ sent_count_of self.old + 1) }
         ensures unchanged { OnErr result ((lists.new ≡ lists.old)) }

@@ -110,7 +110,7 @@ impl Lists {
     ghost use Rattle.comm_rank.specs.Fault.{IsFullAt};
     ghost use Rattle.msg_codec.specs.Letter.{letter_of};
     ghost use Rattle.std.specs.Prelude.{replicate, Some};
-    ghost use Rattle.comm_rank.specs.Links.{waiting, with_waiting, IsBetween};
+    ghost use Rattle.comm_rank.specs.Links.{waiting, ChangesLink, IsBetween};
 
     /// Links for so many ranks, all empty.
     pub fn new(alloc: Global, ranks: u32) -> Result<Lists, AllocError>
@@ -152,7 +152,7 @@ impl Lists {
         requires sender { from < self.old.ranks }
         requires destination { to < self.old.ranks }
         requires one { (l : _) × (batch ≡ l ∷ []) × IsBetween from to l }
-        ensures ok { OnOk result (self.new ≡ with_waiting self.old from to (waiting self.old from to ++ batch)) }
+        ensures ok { OnOk result (ChangesLink from to self.old self.new (waiting self.old from to ++ batch)) }
         ensures err { OnErr result (self.new ≡ self.old) }
         ensures counted { OnOk result (sent.new.count ≡ sent.old.count + 1) }
         ensures not_counted { OnErr result (sent.new.count ≡ sent.old.count) }
@@ -182,7 +182,7 @@ impl Lists {
         requires sender { from < self.old.ranks }
         requires destination { to < self.old.ranks }
         requires some { 0 < length (waiting self.old from to) }
-        ensures { self.new ≡ with_waiting self.old from to (drop 1 (waiting self.old from to)) }
+        ensures { ChangesLink from to self.old self.new (drop 1 (waiting self.old from to)) }
     {
         let place = place_of(self.ranks, from, to);
         let link = &mut self.links[place];
