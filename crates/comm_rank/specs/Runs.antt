@@ -1,9 +1,14 @@
--- What sending and running do to the links and to a rank's contents.
-use Rattle.std.specs.Prelude.{◌≡◌, ℕ, ◌<◌, ◌==◌, List, [], ◌++◌, if◌then◌else◌}
+-- What sending and running do to the links, and to what ranks keep.
+use Rattle.std.specs.Prelude.{◌≡◌, ℕ, ◌<◌, ◌+◌, ◌==◌, List, [], ◌∷◌, ◌++◌, Some, length, if◌then◌else◌, slice_get}
 use Rattle.std.specs.List.{AllByRecursion}
 use Rattle.msg_codec.specs.declared.letter.Letter.{Letter}
 use Rattle.comm_rank.specs.Fold.{Applies, fold_from, handed_from, letters_to, letters_from}
-use Rattle.comm_rank.specs.Links.{Links, waiting, IsBetween}
+use Rattle.comm_rank.specs.Links.{Links, waiting}
+
+-- what a rank keeps, and how many letters it has sent
+pub record State (C : Type 0) : Type 0 where
+  pub contents : C
+  pub sent : ℕ
 
 -- the letters, at that rank alone
 abbrev pub only_at : ℕ → ℕ → List Letter → List Letter
@@ -15,12 +20,33 @@ pub record SentHere (here : ℕ) (old new : Links) (letters : List Letter) : Typ
   pub carried : (from to : ℕ) → from < old.ranks → to < old.ranks →
     waiting new from to ≡ waiting old from to ++ only_at here from (letters_to to letters)
 
--- These letters ran at a rank, in order. Its contents are folded by them. In each link, what waited and
--- what the rank's handler sent meanwhile is what ran of it, and then what waits now.
-pub record RanHere {C : Type 0} (apply : Applies C) (here : ℕ) (before after : C) (old new : Links) (ran : List Letter) : Type 0 where
+-- the letter came over a link of the world to that rank
+pub record CameTo (ranks here : ℕ) (l : Letter) : Type 0 where
+  pub sender : l.from < ranks
+  pub destination : l.to ≡ here
+
+-- These letters ran at a rank, in order: its contents are folded by them and what its handler sent is
+-- counted. In each link, what waited and what that handler sent is what ran of it and then what waits now.
+pub record RanHere {C : Type 0} (apply : Applies C) (here : ℕ) (before after : State C) (old new : Links) (ran : List Letter) : Type 0 where
   pub ranks : new.ranks ≡ old.ranks
-  pub contents : after ≡ fold_from apply here old.ranks before ran
+  pub contents : after.contents ≡ fold_from apply here old.ranks before.contents ran
+  pub sent : after.sent ≡ before.sent + length (handed_from apply here old.ranks before.contents ran)
   pub carried : (from to : ℕ) → from < old.ranks → to < old.ranks →
-    waiting old from to ++ only_at here from (letters_to to (handed_from apply here old.ranks before ran))
+    waiting old from to ++ only_at here from (letters_to to (handed_from apply here old.ranks before.contents ran))
     ≡ only_at here to (letters_from from ran) ++ waiting new from to
-  pub senders : AllByRecursion (λ l. (l.from < old.ranks) × (l.to ≡ here)) ran
+  pub came : AllByRecursion (CameTo old.ranks here) ran
+
+-- These letters ran at each rank, in order: its contents are folded by them and what its handler sent is
+-- counted. In each link, what waited and what its sender's handler sent is what ran of it, and then what
+-- waits now. So each letter runs once, at its destination, in the order of its link.
+pub record Runs {C : Type 0} (apply : Applies C) (before after : List (State C)) (old new : Links) (ran : ℕ → List Letter) : Type 0 where
+  pub ranks : new.ranks ≡ old.ranks
+  pub all : length after ≡ length before
+  pub contents : (rank : ℕ) (b a : State C) → slice_get before rank ≡ Some b → slice_get after rank ≡ Some a →
+    a.contents ≡ fold_from apply rank old.ranks b.contents (ran rank)
+  pub sent : (rank : ℕ) (b a : State C) → slice_get before rank ≡ Some b → slice_get after rank ≡ Some a →
+    a.sent ≡ b.sent + length (handed_from apply rank old.ranks b.contents (ran rank))
+  pub carried : (from to : ℕ) (b : State C) → from < old.ranks → to < old.ranks → slice_get before from ≡ Some b →
+    waiting old from to ++ letters_to to (handed_from apply from old.ranks b.contents (ran from))
+    ≡ letters_from from (ran to) ++ waiting new from to
+  pub came : (rank : ℕ) → AllByRecursion (CameTo old.ranks rank) (ran rank)

@@ -57,7 +57,7 @@ fn carry(
 
 impl<H: Handler> Comm<H> {
     ghost use Rattle.comm_rank.specs.Rank.{rank_of, ranks_of, contents_of, sent_count_of, IsSameRank};
-    ghost use Rattle.comm_rank.specs.Runs.{RanHere};
+    ghost use Rattle.comm_rank.specs.Runs.{RanHere, State};
 
     /// A rank that has sent nothing yet.
     pub fn new(alloc: Global, ranks: u32, here: u32, handler: H) -> Result<Comm<H>, NotMade<H>>
