@@ -1,13 +1,14 @@
 -- One rank sends letters, and letters run there, one after another.
-use Rattle.std.proofs.Common.{◌≡◌, ◌≢◌, ℕ, ◌+◌, ◌<◌, ◌≤◌, Bool, true, false, cond, List, [], ◌∷◌, ◌++◌, Some, None, length, drop, map, refl, sym, ap, ◌∙◌, subst, inl, inr, arith, add_assoc, eqb, slice_get, append_assoc, length-append}
-use Rattle.std.proofs.lemmas.List.{append-nil, length-map}
+use Rattle.std.proofs.Common.{◌≡◌, ◌≢◌, ℕ, ◌+◌, ◌<◌, ◌≤◌, Bool, true, false, cond, List, [], ◌∷◌, ◌++◌, Some, None, length, drop, take, suc, zero, add-one, map, refl, sym, ap, ◌∙◌, subst, inl, inr, arith, add_assoc, eqb, slice_get, append_assoc, length-append}
+use Rattle.std.proofs.lemmas.List.{append-nil, length-map, length-take-le}
 use Rattle.std.proofs.lemmas.List.Elements.{filter-append}
 use Rattle.std.proofs.lemmas.Bool.{eq-eqb, ne_eqb, cases_eq}
 use Rattle.std.specs.List.{AllByRecursion, filter}
 use Rattle.msg_codec.specs.declared.letter.Letter.{Letter}
 use Rattle.comm_rank.specs.Fold.{Applies, letter_by, fold_from, handed_from, letters_to, letters_from}
 use Rattle.comm_rank.specs.Links.{Links, waiting, ChangesLink}
-use Rattle.comm_rank.specs.Runs.{State, only_at, SentHere, RanHere, CameTo}
+use Rattle.comm_rank.specs.declared.handler.Outbound.{Outbound}
+use Rattle.comm_rank.specs.Runs.{State, only_at, SentHere, RanHere, CameTo, StoppedHere}
 use Rattle.comm_rank.proofs.Places.{All-put}
 
 cond_nil : (b : Bool) → cond b (let none : List Letter = [] in none) [] ≡ []
@@ -180,4 +181,48 @@ RanHere-trans {C} apply here s0 s1 s2 l0 l1 l2 xs ys p q =
           ∙ sym (append_assoc (only_at here j (letters_from i xs)) (only_at here j (letters_from i ys)) (waiting l2 i j))
           ∙ ap (λ w. w ++ waiting l2 i j) (sym (ap (only_at here j) (letters_from-append i xs ys) ∙ only_at-append here j (letters_from i xs) (letters_from i ys)));
       came = All-put-came n here xs ys p.came (subst (λ k. AllByRecursion (CameTo k here) ys) p.ranks q.came);
+    }
+
+-- one more of these letters was sent
+take_next : (ys : List Letter) (k : ℕ) (l : Letter) → slice_get ys k ≡ Some l → take (suc k) ys ≡ take k ys ++ l ∷ []
+take_next [] k l e = cc
+take_next (y ∷ ys) zero l e = let same : y ≡ l = cc in ap (λ x. x ∷ []) same
+take_next (y ∷ ys) (suc k) l e = ap (λ w. y ∷ w) (take_next ys k l e)
+
+pub SentHere-next : (here : ℕ) (l0 l1 l2 : Links) (ys : List Letter) (k : ℕ) (l : Letter) → SentHere here l0 l1 (take k ys) → slice_get ys k ≡ Some l → l.from ≡ here → ChangesLink l.from l.to l1 l2 (waiting l1 l.from l.to ++ l ∷ []) → SentHere here l0 l2 (take (k + 1) ys)
+SentHere-next here l0 l1 l2 ys k l so_far is sender ch =
+    let one : ChangesLink here l.to l1 l2 (waiting l1 here l.to ++ l ∷ []) = subst (λ h. ChangesLink h l.to l1 l2 (waiting l1 h l.to ++ l ∷ [])) sender ch in
+    subst (SentHere here l0 l2) (sym (ap (λ i. take i ys) (add-one k) ∙ take_next ys k l is))
+    (SentHere-trans here l0 l1 l2 (take k ys) (l ∷ []) so_far (SentHere-one here l.to l1 l2 l refl one))
+
+-- a letter's handler refused it, and nothing changed
+pub StoppedHere-refused : {C : Type 0} (apply : Applies C) (here from : ℕ) (before after : State C) (links : Links) (l : Letter) → slice_get (waiting links from here) 0 ≡ Some l → after.contents ≡ before.contents → after.sent ≡ before.sent → StoppedHere apply here before after links links
+StoppedHere-refused apply here from before after links l first same counted = record {
+  ran = [];
+  held = before;
+  between = links;
+  given = [];
+  runs = RanHere-none apply here before links;
+  refused = record { from = from; letter = l; first = first; contents = inl (same, refl); sent = omega (arith, counted) };
+  sent = SentHere-none here links;
+}
+
+-- a letter's handler ran it, and only the first of what that gave was sent
+pub StoppedHere-sending : {C : Type 0} (apply : Applies C) (here from k : ℕ) (before after : State C) (links new : Links) (l : Letter) (outs : List Outbound) → slice_get (waiting links from here) 0 ≡ Some l → outs ≡ (apply before.contents here links.ranks l).1 → after.contents ≡ (apply before.contents here links.ranks l).0 → k ≤ length outs → after.sent ≡ before.sent + k → SentHere here links new (take k (map (letter_by here) outs)) → StoppedHere apply here before after links new
+StoppedHere-sending apply here from k before after links new l outs first is contents few counted sent =
+    let size : length (take k (map (letter_by here) outs)) ≡ k = length-take-le k (map (letter_by here) outs) (omega (arith, length-map outs (letter_by here))) in
+    record {
+      ran = [];
+      held = before;
+      between = links;
+      given = take k (map (letter_by here) outs);
+      runs = RanHere-none apply here before links;
+      refused = record {
+        from = from;
+        letter = l;
+        first = first;
+        contents = inr (contents, k, ap (λ w. take k (map (letter_by here) w)) is);
+        sent = omega (arith, counted, size);
+      };
+      sent = sent;
     }

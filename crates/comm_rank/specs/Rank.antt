@@ -1,6 +1,7 @@
 -- What is seen of a rank: its number, the number of ranks, what its handler keeps, and how many letters
 -- it has sent.
 use Rattle.std.specs.Prelude.{◌≡◌, ℕ}
+use Rattle.comm_rank.specs.Runs.{State}
 use Rattle.comm_rank.specs.declared.comm.Comm.{Comm}
 
 abbrev pub rank_of : {H : Type 0} → Comm H → ℕ
@@ -14,6 +15,10 @@ contents_of comm = comm.handler
 
 abbrev pub sent_count_of : {H : Type 0} → Comm H → ℕ
 sent_count_of comm = comm.sent.count
+
+-- what a rank keeps and how many letters it has sent, together
+abbrev pub state_of : {H : Type 0} → Comm H → State H
+state_of comm = record { contents = comm.handler; sent = comm.sent.count }
 
 -- the same rank of the same world
 pub record IsSameRank {H : Type 0} (old new : Comm H) : Type 0 where

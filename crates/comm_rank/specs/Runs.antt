@@ -1,8 +1,8 @@
 -- What sending and running do to the links, and to what ranks keep.
-use Rattle.std.specs.Prelude.{◌≡◌, ℕ, ◌<◌, ◌+◌, ◌==◌, List, [], ◌∷◌, ◌++◌, Some, length, if◌then◌else◌, slice_get}
+use Rattle.std.specs.Prelude.{◌≡◌, ◌⊎◌, ℕ, ◌<◌, ◌+◌, ◌==◌, List, [], ◌∷◌, ◌++◌, Some, length, take, map, if◌then◌else◌, slice_get}
 use Rattle.std.specs.List.{AllByRecursion}
 use Rattle.msg_codec.specs.declared.letter.Letter.{Letter}
-use Rattle.comm_rank.specs.Fold.{Applies, fold_from, handed_from, letters_to, letters_from}
+use Rattle.comm_rank.specs.Fold.{Applies, letter_by, fold_from, handed_from, letters_to, letters_from}
 use Rattle.comm_rank.specs.Links.{Links, waiting}
 
 -- what a rank keeps, and how many letters it has sent
@@ -35,6 +35,27 @@ pub record RanHere {C : Type 0} (apply : Applies C) (here : ℕ) (before after :
     waiting old from to ++ only_at here from (letters_to to (handed_from apply here old.ranks before.contents ran))
     ≡ only_at here to (letters_from from ran) ++ waiting new from to
   pub came : AllByRecursion (CameTo old.ranks here) ran
+
+-- The run of the letter that waits first in a link of the rank was refused: its handler refused it, and
+-- nothing changed; or its handler ran it, and only the first of what that gave could be sent.
+pub record Refused {C : Type 0} (apply : Applies C) (here ranks : ℕ) (held after : State C) (links : Links) (given : List Letter) : Type 0 where
+  pub from : ℕ
+  pub letter : Letter
+  pub first : slice_get (waiting links from here) 0 ≡ Some letter
+  pub contents : ((after.contents ≡ held.contents) × (given ≡ []))
+    ⊎ ((after.contents ≡ (apply held.contents here ranks letter).0)
+      × (k : ℕ) × (given ≡ take k (map (letter_by here) (apply held.contents here ranks letter).1)))
+  pub sent : after.sent ≡ held.sent + length given
+
+-- These letters ran at a rank; then the run of one was refused, which still waits.
+pub record StoppedHere {C : Type 0} (apply : Applies C) (here : ℕ) (before after : State C) (old new : Links) : Type 0 where
+  pub ran : List Letter
+  pub held : State C
+  pub between : Links
+  pub given : List Letter
+  pub runs : RanHere apply here before held old between ran
+  pub refused : Refused apply here old.ranks held after between given
+  pub sent : SentHere here between new given
 
 -- These letters ran at each rank, in order: its contents are folded by them and what its handler sent is
 -- counted. In each link, what waited and what its sender's handler sent is what ran of it, and then what

@@ -1,8 +1,11 @@
 //! One rank of a world.
-ghost use Rattle.std.specs.Prelude.{◌≡◌, ◌<◌, ◌≤◌, ◌+◌, ◌-◌, ◌*◌, ◌^◌, ℕ, List, [], ◌∷◌, ◌++◌, length, drop, take, Some, IfOk, IfErr, IsErr, OnOk, OnErr, slice_get};
+ghost use Rattle.std.specs.Prelude.{◌≡◌, ◌<◌, ◌≤◌, ◌+◌, ◌-◌, ◌*◌, ◌^◌, ℕ, List, [], ◌∷◌, ◌++◌, length, drop, take, Some, map, IfOk, IfErr, IsErr, OnOk, OnErr, slice_get};
 ghost use Rattle.comm_rank.specs.Links.{waiting, ChangesLink};
 ghost use Rattle.comm_rank.specs.Fault.{IsFullAt};
 ghost use Rattle.msg_codec.specs.Letter.{letter_of};
+ghost use Rattle.msg_codec.specs.declared.letter.Letter.{Letter};
+ghost use Rattle.comm_rank.specs.Fold.{letter_by};
+ghost use Rattle.comm_rank.specs.Runs.{SentHere};
 
 use crate::{CommFault, Handler, Lists, Outgoing};
 use msg_codec::{Batch, Body, Counter, LetterRef};
@@ -55,9 +58,32 @@ fn carry(
     lists.put(letter.from, letter.to, batch, sent)
 }
 
+// Sends what a handler gave, in order.
+fn send_out(
+    alloc: Global,
+    here: u32,
+    sent: &mut Counter,
+    lists: &mut Lists,
+    out: &Outgoing,
+) -> Result<(), CommFault>
+    requires world { lists.old.ranks ≡ out.now.ranks }
+    requires below { here < out.now.ranks }
+    ensures ok { OnOk result (SentHere here lists.old lists.new (map (letter_by here) out.now.letters)) }
+    ensures err { OnErr result ((k : ℕ) × (k ≤ length out.now.letters) × (sent.new.count ≡ sent.old.count + k)
+        × SentHere here lists.old lists.new (take k (map (letter_by here) out.now.letters))) }
+    ensures counted { OnOk result (sent.new.count ≡ sent.old.count + length out.now.letters) }
+    ensures limit { sent.new.limit ≡ sent.old.limit }
+    ensures cause { IfErr result (IsFullAt sent.new.count sent.old.limit) }
+{
+    for k in 0..out.count() {
+        carry(alloc, sent, lists, out.letter(here, k))?;
+    }
+    Ok(())
+}
+
 impl<H: Handler> Comm<H> {
-    ghost use Rattle.comm_rank.specs.Rank.{rank_of, ranks_of, contents_of, sent_count_of, IsSameRank};
-    ghost use Rattle.comm_rank.specs.Runs.{RanHere, State};
+    ghost use Rattle.comm_rank.specs.Rank.{rank_of, ranks_of, contents_of, sent_count_of, state_of, IsSameRank};
+    ghost use Rattle.comm_rank.specs.Runs.{RanHere, StoppedHere};
 
     /// A rank that has sent nothing yet.
     pub fn new(alloc: Global, ranks: u32, here: u32, handler: H) -> Result<Comm<H>, NotMade<H>>
@@ -138,5 +164,25 @@ impl<H: Handler> Comm<H> {
         ensures bound { result ≤ 2 ^ 56 }
     {
         self.sent.count()
+    }
+
+    // Runs the letter that waits first in the link from a rank. Where the handler refuses, nothing has
+    // changed; where what it gave can't be sent, the letter still waits.
+    fn run_first(&mut self, lists: &mut Lists, from: u32) -> Result<(), CommFault>
+        requires sender { from < ranks_of self.old }
+        requires world { lists.old.ranks ≡ ranks_of self.old }
+        requires some { 0 < length (waiting lists.old from (rank_of self.old)) }
+        ensures ran { OnOk result ((l : Letter) × (l.from ≡ from) × RanHere H.apply (rank_of self.old) (state_of self.old) (state_of self.new) lists.old lists.new (l ∷ [])) }
+        ensures stopped { OnErr result (StoppedHere H.apply (rank_of self.old) (state_of self.old) (state_of self.new) lists.old lists.new) }
+        ensures cause { IfErr result (IsFullAt (sent_count_of self.new) (2 ^ 56)) }
+        ensures same_rank { IsSameRank self.old self.new }
+    {
+        let letter = lists.first(from, self.here);
+        self.handler.run(self.here, letter, &mut self.out)?;
+        let sent = send_out(self.alloc, self.here, &mut self.sent, lists, &self.out);
+        self.out.cut(0);
+        sent?;
+        lists.drop_first(from, self.here);
+        Ok(())
     }
 }
