@@ -1,3 +1,5 @@
+pub mod Bytes
 pub mod Count
 pub mod Letter
+pub mod Placed
 pub mod Spelling

@@ -1,5 +1,5 @@
 -- The bytes of letters: each its header and its body, one letter after another, nothing between.
-use Rattle.std.specs.Prelude.{ℕ, List, [], ◌∷◌, ◌++◌, length}
+use Rattle.std.specs.Prelude.{ℕ, List, ◌∷◌, ◌++◌, length}
 use Rattle.std.specs.Int.{w32, to_le_bytes}
 use Rattle.std.specs.List.{flat_map}
 use Rattle.msg_codec.specs.declared.letter.Letter.{Letter}

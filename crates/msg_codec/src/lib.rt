@@ -2,10 +2,12 @@
 //! the counter that a rank counts its letters by.
 #![tactic(auto)]
 
+mod batch;
 mod body;
 mod counter;
 mod letter;
 
+pub use batch::Batch;
 pub use body::{Body, Body2, MAX_BODY};
 pub use counter::{AtLimit, Counter};
 pub use letter::{Letter, LetterRef};
