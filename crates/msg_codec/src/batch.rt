@@ -7,6 +7,7 @@ ghost use Rattle.msg_codec.specs.Placed.{told_length, first_letter, Fits, IsHeld
 ghost use Rattle.msg_codec.specs.Spelling.{header, spelled_letter, spelling};
 
 use crate::LetterRef;
+use crate::body::length_field;
 use std::alloc::{AllocError, Global};
 use std::marker::Model;
 
@@ -30,15 +31,6 @@ impl Model for Batch {
     ghost view = { λ batch. letters_at batch.bytes.items batch.starts.items };
 
     ghost invariant = { λ batch. IsBatch batch.bytes.items batch.starts.items };
-}
-
-/// The length of a body, spelled.
-fn length_field(body: &[u8]) -> [u8; 4]
-    requires { length body.now ≤ 1048576 }
-    ensures value { result ≡ to_le_bytes w32 (length body.now) }
-    ensures bytes { AreBytes body.now }
-{
-    (body.len() as u32).to_le_bytes()
 }
 
 /// The header of a letter.
