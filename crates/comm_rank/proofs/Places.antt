@@ -42,12 +42,12 @@ grid_with links from to letters grid f t each = record {
   addressed = λ i j a b.
       elim (cases_eq i from) [
         | inl e ↦ elim (cases_eq j to) [
-            | inl d ↦
-                let P : List Letter → Type 0 = AllByRecursion (IsBetween i j) in
-                let Q : ℕ → ℕ → Type 0 = λ x y. AllByRecursion (IsBetween x y) (waiting (with_waiting links from to letters) x y) in
-                subst (λ x. Q x j) (sym e) (subst (λ y. Q from y) (sym d) (subst (AllByRecursion (IsBetween from to)) (sym (waiting_same links from to letters grid.square f t)) each))
-            | inr other ↦ subst (AllByRecursion (IsBetween i j)) (sym (waiting_other links from to i j letters t b (λ x y. other y))) (grid.addressed i j a b)
-          ]
+          | inl d ↦
+              let P : List Letter → Type 0 = AllByRecursion (IsBetween i j) in
+              let Q : ℕ → ℕ → Type 0 = λ x y. AllByRecursion (IsBetween x y) (waiting (with_waiting links from to letters) x y) in
+              subst (λ x. Q x j) (sym e) (subst (λ y. Q from y) (sym d) (subst (AllByRecursion (IsBetween from to)) (sym (waiting_same links from to letters grid.square f t)) each))
+          | inr other ↦ subst (AllByRecursion (IsBetween i j)) (sym (waiting_other links from to i j letters t b (λ x y. other y))) (grid.addressed i j a b)
+        ]
         | inr other ↦ subst (AllByRecursion (IsBetween i j)) (sym (waiting_other links from to i j letters t b (λ x y. other x))) (grid.addressed i j a b)
       ];
 }

@@ -75,14 +75,14 @@ SentHere-one here to l0 l1 l dest ch = record {
   carried = λ i j a b.
       elim (cases_eq i here) [
         | inl e ↦ elim (cases_eq j to) [
-            | inl d ↦
-                let goal : ℕ → ℕ → Type 0 = λ x y. waiting l1 x y ≡ waiting l0 x y ++ only_at here x (letters_to y (l ∷ [])) in
-                subst (λ x. goal x j) (sym e) (subst (λ y. goal here y) (sym d)
-                (ch.changed ∙ ap (λ w. waiting l0 here to ++ w) (sym (only_at-same here here (letters_to to (l ∷ [])) refl ∙ to_one l to dest))))
-            | inr other ↦
-                ch.others i j a b (λ x y. other y)
-                ∙ sym (ap (λ w. waiting l0 i j ++ w) (ap (only_at here i) (to_other l j (λ same. other (sym same ∙ dest))) ∙ only_at-nil here i) ∙ append-nil (waiting l0 i j))
-          ]
+          | inl d ↦
+              let goal : ℕ → ℕ → Type 0 = λ x y. waiting l1 x y ≡ waiting l0 x y ++ only_at here x (letters_to y (l ∷ [])) in
+              subst (λ x. goal x j) (sym e) (subst (λ y. goal here y) (sym d)
+              (ch.changed ∙ ap (λ w. waiting l0 here to ++ w) (sym (only_at-same here here (letters_to to (l ∷ [])) refl ∙ to_one l to dest))))
+          | inr other ↦
+              ch.others i j a b (λ x y. other y)
+              ∙ sym (ap (λ w. waiting l0 i j ++ w) (ap (only_at here i) (to_other l j (λ same. other (sym same ∙ dest))) ∙ only_at-nil here i) ∙ append-nil (waiting l0 i j))
+        ]
         | inr other ↦
             ch.others i j a b (λ x y. other x)
             ∙ sym (ap (λ w. waiting l0 i j ++ w) (only_at-other here i (letters_to j (l ∷ [])) other) ∙ append-nil (waiting l0 i j))
@@ -134,19 +134,19 @@ RanHere-one apply here from before after l0 l1 l2 l f h sender dest first is cou
       let b' : j < l1.ranks = omega (arith, sent.ranks) in
       elim (cases_eq j here) [
         | inl d ↦ elim (cases_eq i from) [
-            | inl e ↦
-                let goal : ℕ → ℕ → Type 0 = λ x y. waiting l1 x y ≡ only_at here y (letters_from x (l ∷ [])) ++ waiting l2 x y in
-                let front : waiting l1 from here ≡ l ∷ drop 1 (waiting l1 from here) =
-                    sent.carried from here f h
-                    ∙ head_of (waiting l0 from here) (only_at here from (letters_to here (map (letter_by here) (apply before.contents here l0.ranks l).1))) first
-                    ∙ ap (λ w. l ∷ drop 1 w) (sym (sent.carried from here f h)) in
-                subst (λ x. goal x j) (sym e) (subst (λ y. goal from y) (sym d)
-                (front ∙ ap (λ w. l ∷ w) (sym ch.changed)
-                 ∙ sym (ap (λ w. w ++ waiting l2 from here) (only_at-same here here (letters_from from (l ∷ [])) refl ∙ from_one l from sender))))
-            | inr other ↦
-                sym (ch.others i j a' b' (λ x y. other x))
-                ∙ sym (ap (λ w. w ++ waiting l2 i j) (ap (only_at here j) (from_other l i (λ same. other (sym same ∙ sender))) ∙ only_at-nil here j))
-          ]
+          | inl e ↦
+              let goal : ℕ → ℕ → Type 0 = λ x y. waiting l1 x y ≡ only_at here y (letters_from x (l ∷ [])) ++ waiting l2 x y in
+              let front : waiting l1 from here ≡ l ∷ drop 1 (waiting l1 from here) =
+              sent.carried from here f h
+              ∙ head_of (waiting l0 from here) (only_at here from (letters_to here (map (letter_by here) (apply before.contents here l0.ranks l).1))) first
+              ∙ ap (λ w. l ∷ drop 1 w) (sym (sent.carried from here f h)) in
+              subst (λ x. goal x j) (sym e) (subst (λ y. goal from y) (sym d)
+              (front ∙ ap (λ w. l ∷ w) (sym ch.changed)
+              ∙ sym (ap (λ w. w ++ waiting l2 from here) (only_at-same here here (letters_from from (l ∷ [])) refl ∙ from_one l from sender))))
+          | inr other ↦
+              sym (ch.others i j a' b' (λ x y. other x))
+              ∙ sym (ap (λ w. w ++ waiting l2 i j) (ap (only_at here j) (from_other l i (λ same. other (sym same ∙ sender))) ∙ only_at-nil here j))
+        ]
         | inr other ↦
             sym (ch.others i j a' b' (λ x y. other y))
             ∙ sym (ap (λ w. w ++ waiting l2 i j) (only_at-other here j (letters_from i (l ∷ [])) other))
@@ -160,9 +160,9 @@ RanHere-trans {C} apply here s0 s1 s2 l0 l1 l2 xs ys p q =
     let n = l0.ranks in
     let contents' : s2.contents ≡ fold_from apply here n s1.contents ys = q.contents ∙ ap (λ k. fold_from apply here k s1.contents ys) p.ranks in
     let given : handed_from apply here n s0.contents (xs ++ ys) ≡ handed_from apply here n s0.contents xs ++ handed_from apply here l1.ranks s1.contents ys =
-        handed-append apply here n s0.contents xs ys
-        ∙ ap (λ c. handed_from apply here n s0.contents xs ++ handed_from apply here n c ys) (sym p.contents)
-        ∙ ap (λ k. handed_from apply here n s0.contents xs ++ handed_from apply here k s1.contents ys) (sym p.ranks) in
+    handed-append apply here n s0.contents xs ys
+    ∙ ap (λ c. handed_from apply here n s0.contents xs ++ handed_from apply here n c ys) (sym p.contents)
+    ∙ ap (λ k. handed_from apply here n s0.contents xs ++ handed_from apply here k s1.contents ys) (sym p.ranks) in
     record {
       ranks = q.ranks ∙ p.ranks;
       contents = contents' ∙ ap (λ c. fold_from apply here n c ys) p.contents ∙ sym (fold-append apply here n s0.contents xs ys);

@@ -18,7 +18,7 @@ only_at here rank letters = if rank == here then letters else []
 pub record SentHere (here : ℕ) (old new : Links) (letters : List Letter) : Type 0 where
   pub ranks : new.ranks ≡ old.ranks
   pub carried : (from to : ℕ) → from < old.ranks → to < old.ranks →
-    waiting new from to ≡ waiting old from to ++ only_at here from (letters_to to letters)
+      waiting new from to ≡ waiting old from to ++ only_at here from (letters_to to letters)
 
 -- the letter came over a link of the world to that rank
 pub record CameTo (ranks here : ℕ) (l : Letter) : Type 0 where
@@ -32,8 +32,8 @@ pub record RanHere {C : Type 0} (apply : Applies C) (here : ℕ) (before after :
   pub contents : after.contents ≡ fold_from apply here old.ranks before.contents ran
   pub sent : after.sent ≡ before.sent + length (handed_from apply here old.ranks before.contents ran)
   pub carried : (from to : ℕ) → from < old.ranks → to < old.ranks →
-    waiting old from to ++ only_at here from (letters_to to (handed_from apply here old.ranks before.contents ran))
-    ≡ only_at here to (letters_from from ran) ++ waiting new from to
+      waiting old from to ++ only_at here from (letters_to to (handed_from apply here old.ranks before.contents ran))
+      ≡ only_at here to (letters_from from ran) ++ waiting new from to
   pub came : AllByRecursion (CameTo old.ranks here) ran
 
 -- The run of the letter that waits first in a link of the rank was refused: its handler refused it, and
@@ -43,7 +43,7 @@ pub record Refused {C : Type 0} (apply : Applies C) (here ranks : ℕ) (held aft
   pub letter : Letter
   pub first : slice_get (waiting links from here) 0 ≡ Some letter
   pub contents : ((after.contents ≡ held.contents) × (given ≡ []))
-    ⊎ ((after.contents ≡ (apply held.contents here ranks letter).0)
+      ⊎ ((after.contents ≡ (apply held.contents here ranks letter).0)
       × (k : ℕ) × (given ≡ take k (map (letter_by here) (apply held.contents here ranks letter).1)))
   pub sent : after.sent ≡ held.sent + length given
 
@@ -64,10 +64,10 @@ pub record Runs {C : Type 0} (apply : Applies C) (before after : List (State C))
   pub ranks : new.ranks ≡ old.ranks
   pub all : length after ≡ length before
   pub contents : (rank : ℕ) (b a : State C) → slice_get before rank ≡ Some b → slice_get after rank ≡ Some a →
-    a.contents ≡ fold_from apply rank old.ranks b.contents (ran rank)
+      a.contents ≡ fold_from apply rank old.ranks b.contents (ran rank)
   pub sent : (rank : ℕ) (b a : State C) → slice_get before rank ≡ Some b → slice_get after rank ≡ Some a →
-    a.sent ≡ b.sent + length (handed_from apply rank old.ranks b.contents (ran rank))
+      a.sent ≡ b.sent + length (handed_from apply rank old.ranks b.contents (ran rank))
   pub carried : (from to : ℕ) (b : State C) → from < old.ranks → to < old.ranks → slice_get before from ≡ Some b →
-    waiting old from to ++ letters_to to (handed_from apply from old.ranks b.contents (ran from))
-    ≡ letters_from from (ran to) ++ waiting new from to
+      waiting old from to ++ letters_to to (handed_from apply from old.ranks b.contents (ran from))
+      ≡ letters_from from (ran to) ++ waiting new from to
   pub came : (rank : ℕ) → AllByRecursion (CameTo old.ranks rank) (ran rank)

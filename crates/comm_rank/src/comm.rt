@@ -107,13 +107,7 @@ impl<H: Handler> Comm<H> {
 
     /// Sends a letter to a rank: alone in a batch, it goes behind what waits in that link. After a
     /// refusal nothing has changed.
-    pub fn send(
-        &mut self,
-        lists: &mut Lists,
-        to: u32,
-        tag: u8,
-        body: Body,
-    ) -> Result<(), CommFault>
+    pub fn send(&mut self, lists: &mut Lists, to: u32, tag: u8, body: Body) -> Result<(), CommFault>
         requires destination { to < ranks_of self.old }
         requires data { tag < 240 }
         requires world { lists.old.ranks ≡ ranks_of self.old }

@@ -19,4 +19,4 @@ returns-clause-ok c =
     subst (λ (l : Links). OnOk c.put.result (ChangesLink c.args.from c.args.to l (record { ranks = c.self.inside.ranks; lists = set c.self.inside.links.items c.place_of-place.result c.put.new.self }) (waiting l c.args.from c.args.to ++ c.args.batch)))
     c.self.view_is
     (put_changes (record { ranks = c.self.inside.ranks; lists = c.self.inside.links.items }) c.args.from c.args.to _ _ _ c.args.batch c.put.result
-      c.self.invariant f t c.place_of-place.ensures.value c.index_mut-link.ensures.value c.put.ensures.ok)
+    c.self.invariant f t c.place_of-place.ensures.value c.index_mut-link.ensures.value c.put.ensures.ok)
