@@ -91,11 +91,11 @@ SentHere-one here to l0 l1 l dest ch = record {
 
 -- running
 
-fold-append : {C : Type 0} (apply : Applies C) (here n : ℕ) (c : C) (xs ys : List Letter) → fold_from apply here n c (xs ++ ys) ≡ fold_from apply here n (fold_from apply here n c xs) ys
+pub fold-append : {C : Type 0} (apply : Applies C) (here n : ℕ) (c : C) (xs ys : List Letter) → fold_from apply here n c (xs ++ ys) ≡ fold_from apply here n (fold_from apply here n c xs) ys
 fold-append apply here n c [] ys = refl
 fold-append apply here n c (x ∷ xs) ys = fold-append apply here n (apply c here n x).0 xs ys
 
-handed-append : {C : Type 0} (apply : Applies C) (here n : ℕ) (c : C) (xs ys : List Letter) → handed_from apply here n c (xs ++ ys) ≡ handed_from apply here n c xs ++ handed_from apply here n (fold_from apply here n c xs) ys
+pub handed-append : {C : Type 0} (apply : Applies C) (here n : ℕ) (c : C) (xs ys : List Letter) → handed_from apply here n c (xs ++ ys) ≡ handed_from apply here n c xs ++ handed_from apply here n (fold_from apply here n c xs) ys
 handed-append apply here n c [] ys = refl
 handed-append apply here n c (x ∷ xs) ys =
     ap (λ w. map (letter_by here) (apply c here n x).1 ++ w) (handed-append apply here n (apply c here n x).0 xs ys)

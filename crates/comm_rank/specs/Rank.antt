@@ -1,6 +1,6 @@
 -- What is seen of a rank: its number, the number of ranks, what its handler keeps, and how many letters
 -- it has sent.
-use Rattle.std.specs.Prelude.{◌≡◌, ℕ}
+use Rattle.std.specs.Prelude.{◌≡◌, ℕ, List, Some, length, map, slice_get}
 use Rattle.comm_rank.specs.Runs.{State}
 use Rattle.comm_rank.specs.declared.comm.Comm.{Comm}
 
@@ -24,3 +24,12 @@ state_of comm = record { contents = comm.handler; sent = comm.sent.count }
 pub record IsSameRank {H : Type 0} (old new : Comm H) : Type 0 where
   pub rank : rank_of new ≡ rank_of old
   pub ranks : ranks_of new ≡ ranks_of old
+
+-- what each of the ranks keeps
+abbrev pub states_of : {H : Type 0} → List (Comm H) → List (State H)
+states_of {H} comms = map (state_of {H = H}) comms
+
+-- one for each rank, in the order of ranks
+pub record IsWorld {H : Type 0} (comms : List (Comm H)) (ranks : ℕ) : Type 0 where
+  pub all : length comms ≡ ranks
+  pub each : (rank : ℕ) (comm : Comm H) → slice_get comms rank ≡ Some comm → (rank_of comm ≡ rank) × (ranks_of comm ≡ ranks)

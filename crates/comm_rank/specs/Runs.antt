@@ -71,3 +71,23 @@ pub record Runs {C : Type 0} (apply : Applies C) (before after : List (State C))
       waiting old from to ++ letters_to to (handed_from apply from old.ranks b.contents (ran from))
       ≡ letters_from from (ran to) ++ waiting new from to
   pub came : (rank : ℕ) → AllByRecursion (CameTo old.ranks rank) (ran rank)
+
+-- A weak barrier of one rank: letters ran, among them all that it had sent before, each once and in order
+-- for each destination. Of each link as many ran as waited there.
+pub record Settled {C : Type 0} (apply : Applies C) (caller : ℕ) (before after : List (State C)) (old new : Links) : Type 0 where
+  pub ran : ℕ → List Letter
+  pub runs : Runs apply before after old new ran
+  pub own : (to : ℕ) → to < old.ranks → (later : List Letter) × (letters_from caller (ran to) ≡ waiting old caller to ++ later)
+  pub took : (from to : ℕ) → from < old.ranks → to < old.ranks → letters_from from (ran to) ≡ waiting old from to
+
+-- Letters ran as they do; then the run of one was refused, at one rank.
+pub record StoppedAt {C : Type 0} (apply : Applies C) (before after : List (State C)) (old new : Links) : Type 0 where
+  pub ran : ℕ → List Letter
+  pub held : List (State C)
+  pub between : Links
+  pub rank : ℕ
+  pub given : List Letter
+  pub runs : Runs apply before held old between ran
+  pub refused : (b a : State C) → slice_get held rank ≡ Some b → slice_get after rank ≡ Some a → Refused apply rank old.ranks b a between given
+  pub sent : SentHere rank between new given
+  pub others : (other : ℕ) → (other ≡ rank → ⊥) → slice_get after other ≡ slice_get held other

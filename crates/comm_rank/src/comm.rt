@@ -162,7 +162,7 @@ impl<H: Handler> Comm<H> {
 
     // Runs the letter that waits first in the link from a rank. Where the handler refuses, nothing has
     // changed; where what it gave can't be sent, the letter still waits.
-    fn run_first(&mut self, lists: &mut Lists, from: u32) -> Result<(), CommFault>
+    pub(crate) fn run_first(&mut self, lists: &mut Lists, from: u32) -> Result<(), CommFault>
         requires sender { from < ranks_of self.old }
         requires world { lists.old.ranks ≡ ranks_of self.old }
         requires some { 0 < length (waiting lists.old from (rank_of self.old)) }

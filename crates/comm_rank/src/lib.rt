@@ -2,11 +2,13 @@
 //! that runs what waits.
 #![tactic(auto)]
 
+mod barrier;
 mod comm;
 mod fault;
 mod handler;
 mod lists;
 
+pub use barrier::settle;
 pub use comm::{Comm, MOST_LETTERS, NotMade};
 pub use fault::CommFault;
 pub use handler::{Handler, Outbound, Outgoing};

@@ -97,7 +97,7 @@ impl Model for Lists {
 }
 
 // the place of a link in the list of links
-fn place_of(ranks: u32, from: u32, to: u32) -> usize
+pub(crate) fn place_of(ranks: u32, from: u32, to: u32) -> usize
     requires sender { from < ranks }
     requires destination { to < ranks }
     ensures value { result ≡ place ranks from to }
@@ -109,7 +109,7 @@ fn place_of(ranks: u32, from: u32, to: u32) -> usize
 impl Lists {
     ghost use Rattle.comm_rank.specs.Fault.{IsFullAt};
     ghost use Rattle.msg_codec.specs.Letter.{letter_of};
-    ghost use Rattle.std.specs.Prelude.{replicate, Some};
+    ghost use Rattle.std.specs.Prelude.{map, replicate, Some};
     ghost use Rattle.comm_rank.specs.Links.{waiting, ChangesLink, IsBetween};
 
     /// Links for so many ranks, all empty.
@@ -139,6 +139,14 @@ impl Lists {
     {
         let link = &self.links[place_of(self.ranks, from, to)];
         link.len()
+    }
+
+    /// The number of letters that wait in each link.
+    pub(crate) fn lengths(&self, alloc: Global) -> Result<Vec<usize>, AllocError>
+        ensures lengths { IfOk result (λ lengths. lengths.items ≡ map length self.now.lists) }
+        ensures square { length self.now.lists ≡ self.now.ranks * self.now.ranks }
+    {
+        self.links.iter().map(|link| link.len()).collect(alloc)
     }
 
     /// Counts a batch of one letter as sent, and puts it into its link, behind what waits there.
