@@ -1,5 +1,4 @@
 -- Letters as values: who sent them, to whom, with what tag and body.
-use Rattle.std.specs.Prelude.{ℕ, List}
 use Rattle.msg_codec.specs.declared.letter.Letter.{Letter}
 use Rattle.msg_codec.specs.declared.letter.LetterRef.{LetterRef}
 

@@ -1,3 +1,7 @@
+pub mod Bytes
 pub mod Count
+pub mod Laws
 pub mod Letter
+pub mod Placed
+pub mod Reading
 pub mod Spelling

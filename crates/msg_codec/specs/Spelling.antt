@@ -1,6 +1,6 @@
 -- The bytes of letters: each its header and its body, one letter after another, nothing between.
-use Rattle.std.specs.Prelude.{ℕ, List, [], ◌∷◌, ◌++◌, length}
-use Rattle.std.specs.Int.{w32, to_le_bytes}
+use Rattle.std.specs.Prelude.{ℕ, List, ◌∷◌, ◌++◌, length}
+use Rattle.std.specs.Int.{w32, w64, to_le_bytes}
 use Rattle.std.specs.List.{flat_map}
 use Rattle.msg_codec.specs.declared.letter.Letter.{Letter}
 
@@ -13,3 +13,15 @@ spelled_letter l = header l ++ l.body
 
 abbrev pub spelling : List Letter → List ℕ
 spelling letters = flat_map spelled_letter letters
+
+-- a number as its eight bytes, the least first
+abbrev pub spelled_number : ℕ → List ℕ
+spelled_number n = to_le_bytes w64 n
+
+-- the length of a body as four bytes, and its bytes
+abbrev pub spelled_body : List ℕ → List ℕ
+spelled_body body = to_le_bytes w32 (length body) ++ body
+
+-- an item of a counting set and how many of it
+abbrev pub spelled_item_count : List ℕ → ℕ → List ℕ
+spelled_item_count item count = spelled_body item ++ spelled_number count

@@ -1,5 +1,7 @@
 //! Lists of bytes: a letter's body, and a text without a limit.
 ghost use Rattle.std.specs.Prelude.{◌≡◌, ◌≤◌, List, ℕ, length, vec_len, IfOk};
+ghost use Rattle.std.specs.Int.{w32, to_le_bytes};
+ghost use Rattle.msg_codec.specs.Bytes.{AreBytes};
 
 use std::alloc::{AllocError, Global};
 use std::marker::Model;
@@ -86,4 +88,13 @@ impl Body2 {
     {
         self.bytes
     }
+}
+
+/// The length of a body, spelled.
+pub(crate) fn length_field(body: &[u8]) -> [u8; 4]
+    requires { length body.now ≤ 1048576 }
+    ensures value { result ≡ to_le_bytes w32 (length body.now) }
+    ensures bytes { AreBytes body.now }
+{
+    (body.len() as u32).to_le_bytes()
 }

@@ -37,3 +37,15 @@ impl Letter {
         }
     }
 }
+
+impl LetterRef<'_> {
+    ghost use Rattle.msg_codec.specs.Letter.{letter_of};
+    ghost use Rattle.msg_codec.specs.Spelling.{spelled_letter};
+
+    /// The number of bytes of its spelling: 13 and those of its body.
+    pub fn spelled_len(&self) -> usize
+        ensures { result ≡ length (spelled_letter (letter_of self.now)) }
+    {
+        13 + self.body.len()
+    }
+}

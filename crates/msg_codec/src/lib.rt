@@ -2,10 +2,14 @@
 //! the counter that a rank counts its letters by.
 #![tactic(auto)]
 
+mod batch;
 mod body;
 mod counter;
 mod letter;
+mod wire;
 
+pub use batch::Batch;
 pub use body::{Body, Body2, MAX_BODY};
 pub use counter::{AtLimit, Counter};
 pub use letter::{Letter, LetterRef};
+pub use wire::{Wire, WireFault};

@@ -1,0 +1,5 @@
+pub mod Places
+pub mod Running
+pub mod Settling
+pub mod Singles
+pub mod Worlds

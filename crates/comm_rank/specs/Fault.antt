@@ -1,0 +1,15 @@
+-- When a rank's faults come.
+use Rattle.std.specs.Prelude.{◌≡◌, ℕ, ◌<◌, ◌+◌, List, Some, slice_get}
+use Rattle.comm_rank.specs.Runs.{State}
+use Rattle.comm_rank.specs.declared.fault.CommFault.{CommFault}
+use Rattle.comm_rank.specs.declared.fault.CommFault.TheVariants.{CountFull, NoMemory}
+
+-- a full count is answered only by a count that can't be raised, with its limit
+abbrev pub IsFullAt : ℕ → ℕ → CommFault → Type 0
+IsFullAt count limit (CountFull at) = (limit < count + 1) × (at ≡ limit)
+IsFullAt count limit NoMemory = Unit {0}
+
+-- a full count is answered only where the count of some rank can't be raised, with its limit
+abbrev pub IsFullSomewhere : {C : Type 0} → List (State C) → ℕ → CommFault → Type 0
+IsFullSomewhere {C} states limit (CountFull at) = (rank : ℕ) × (state : State C) × (slice_get states rank ≡ Some state) × (limit < state.sent + 1) × (at ≡ limit)
+IsFullSomewhere states limit NoMemory = Unit {0}

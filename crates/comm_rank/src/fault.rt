@@ -1,0 +1,41 @@
+//! Why a rank couldn't go on.
+ghost use Rattle.std.specs.Prelude.{◌≡◌};
+ghost use Rattle.comm_rank.specs.declared.fault.CommFault.TheVariants.{CountFull, NoMemory};
+
+use msg_codec::AtLimit;
+use std::alloc::{AllocError, AllocFailed};
+use thiserror::Error;
+
+/// Why a letter wasn't sent, or didn't run.
+#[derive(Clone, Copy, Debug, PartialEq, Eq, Error)]
+pub enum CommFault {
+    /// The rank has sent as many letters as it may.
+    #[error("the rank is at its limit of letters")]
+    CountFull(AtLimit),
+    #[error("out of memory")]
+    NoMemory,
+}
+
+impl From<AtLimit> for CommFault {
+    ghost from_gives = { λ at e. e ≡ CountFull at };
+
+    fn from(at: AtLimit) -> Self {
+        CommFault::CountFull(at)
+    }
+}
+
+impl From<AllocError> for CommFault {
+    ghost from_gives = { λ _ e. e ≡ NoMemory };
+
+    fn from(_: AllocError) -> Self {
+        CommFault::NoMemory
+    }
+}
+
+impl<T: Drop> From<AllocFailed<T>> for CommFault {
+    ghost from_gives = { λ _ e. e ≡ NoMemory };
+
+    fn from(_: AllocFailed<T>) -> Self {
+        CommFault::NoMemory
+    }
+}

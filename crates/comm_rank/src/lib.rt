@@ -1,0 +1,15 @@
+//! A rank: what its handler does with letters, how letters reach other ranks, and the weak barrier
+//! that runs what waits.
+#![tactic(auto)]
+
+mod barrier;
+mod comm;
+mod fault;
+mod handler;
+mod lists;
+
+pub use barrier::settle;
+pub use comm::{Comm, MOST_LETTERS, NotMade};
+pub use fault::CommFault;
+pub use handler::{Handler, Outbound, Outgoing};
+pub use lists::Lists;

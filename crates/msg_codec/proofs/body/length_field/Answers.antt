@@ -1,0 +1,6 @@
+use Rattle.std.proofs.Common.{arith}
+use Rattle.msg_codec.proofs.Bytes.{are_bytes}
+use Rattle.msg_codec.proofs.body.length_field.Goals as goal
+
+pub returns-clause-bytes : goal.returns-clause-bytes
+returns-clause-bytes c = are_bytes c.args.body.now (λ i. omega (arith, c.type_inv.body i))

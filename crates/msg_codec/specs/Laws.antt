@@ -1,0 +1,125 @@
+-- The laws of the spellings: what was spelled is read again, and what is read is spelled so.
+use Rattle.std.proofs.Common.{◌≡◌, lit<, ℕ, ◌+◌, ◌^◌, ◌<◌, ◌≤◌, Bool, true, false, cond, ltb, List, [], ◌∷◌, ◌++◌, length, get_or, take, drop, Result, Ok, Err, refl, sym, ap, subst, ◌∙◌, append_assoc, arith, length-append, length-drop, inl, inr}
+use Rattle.std.specs.Int.{w32, w64, to_le_bytes, from_le_bytes}
+use Rattle.std.proofs.lemmas.Bool.{cases_lt, ltb-false, le-ltb}
+use Rattle.std.proofs.lemmas.List.{take_at, drop_at, length-take, get_or-take, get_or_past}
+use Rattle.std.proofs.lemmas.List.Elements.{All-take, All-drop}
+use Rattle.std.proofs.Math.Seq.{take-add}
+use Rattle.std.proofs.lemmas.Nat.{le_bytes_4, le_bytes_8, from_le_bytes-to_le_bytes_4, from_le_bytes-to_le_bytes_8}
+use Rattle.msg_codec.specs.declared.wire.WireFault.{WireFault}
+use Rattle.msg_codec.specs.declared.wire.WireFault.TheVariants.{Short, TooLong}
+use Rattle.msg_codec.specs.Bytes.{AreBytes}
+use Rattle.msg_codec.specs.Reading.{◌>>=◌, number_reading, told, body_reading, pair_reading}
+use Rattle.msg_codec.specs.Spelling.{spelled_number, spelled_body}
+
+-- past the end stands 0, which is a byte too
+each_byte : (bytes : List ℕ) → AreBytes bytes → (i : ℕ) → get_or bytes i 0 < 256
+each_byte bytes fit i =
+    elim (cases_lt i (length bytes)) [
+      | inl lt ↦ fit i 0 lt
+      | inr le ↦ rw (get_or_past bytes i 0 le) (omega arith)
+    ]
+
+-- the value of a step that did not fail
+bind_ok : {A B : Type 0} (r : Result A WireFault) (f : A → Result B WireFault) (y : B) → (r >>= f) ≡ Ok y → (x : A) × (r ≡ Ok x) × (f x ≡ Ok y)
+bind_ok (Ok x) f y e = (x, refl, e)
+bind_ok (Err d) f y e = absurd cc
+
+-- a test that did not fail
+guard_ok : {A : Type 0} (b : Bool) (d : WireFault) (r : Result A WireFault) (y : A) → cond b (Err d) r ≡ Ok y → (b ≡ false) × (r ≡ Ok y)
+guard_ok true d r y e = absurd cc
+guard_ok false d r y e = (refl, e)
+
+abbrev done : {A : Type 0} → A → Result A WireFault
+done x = Ok x
+
+ok_is : {A : Type 0} (x y : A) → done x ≡ done y → x ≡ y
+ok_is x y e = cc
+
+-- ---- numbers
+
+pub number_again : (n : ℕ) (rest : List ℕ) → n < 2 ^ 64 → number_reading (spelled_number n ++ rest) ≡ Ok (n, length (spelled_number n))
+unfolding number_reading
+number_again n rest lt =
+    let long : ltb (length (spelled_number n ++ rest)) 8 ≡ false = le-ltb _ _ (omega (arith, length-append (spelled_number n) rest)) in
+    let number : from_le_bytes w64 (spelled_number n ++ rest) ≡ n = from_le_bytes-to_le_bytes_8 n lt in
+    rw (long, number) refl
+
+front_8 : (bytes : List ℕ) → from_le_bytes w64 bytes ≡ from_le_bytes w64 (take 8 bytes)
+front_8 bytes =
+    sym (simp (get_or-take 8 bytes 0 0 (lit< tt), get_or-take 8 bytes 1 0 (lit< tt), get_or-take 8 bytes 2 0 (lit< tt), get_or-take 8 bytes 3 0 (lit< tt), get_or-take 8 bytes 4 0 (lit< tt), get_or-take 8 bytes 5 0 (lit< tt), get_or-take 8 bytes 6 0 (lit< tt), get_or-take 8 bytes 7 0 (lit< tt)))
+
+front_4 : (bytes : List ℕ) → from_le_bytes w32 bytes ≡ from_le_bytes w32 (take 4 bytes)
+front_4 bytes = sym (simp (get_or-take 4 bytes 0 0 (lit< tt), get_or-take 4 bytes 1 0 (lit< tt), get_or-take 4 bytes 2 0 (lit< tt), get_or-take 4 bytes 3 0 (lit< tt)))
+
+pub number_spelled : (bytes : List ℕ) (n len : ℕ) → AreBytes bytes → number_reading bytes ≡ Ok (n, len) → (n < 2 ^ 64) × (take len bytes ≡ spelled_number n) × (len ≤ length bytes)
+unfolding number_reading
+number_spelled bytes n len fit e =
+    let g = guard_ok (ltb (length bytes) 8) Short (Ok (from_le_bytes w64 bytes, 8)) (n, len) e in
+    let long : 8 ≤ length bytes = ltb-false _ _ g.0 in
+    let same = ok_is (from_le_bytes w64 bytes, 8) (n, len) g.1 in
+    let each = each_byte bytes fit in
+    let front = each_byte (take 8 bytes) (All-take (λ b. b < 2 ^ 8) 8 bytes fit) in
+    let below : from_le_bytes w64 bytes < 2 ^ 64 = omega (arith, each 0, each 1, each 2, each 3, each 4, each 5, each 6, each 7) in
+    let bytes-are : take 8 bytes ≡ spelled_number (from_le_bytes w64 bytes) = sym (le_bytes_8 (take 8 bytes) (from_le_bytes w64 bytes) (omega (arith, length-take 8 bytes)) front (front_8 bytes)) in
+    subst (λ (x : ℕ × ℕ). (x.0 < 2 ^ 64) × (take x.1 bytes ≡ spelled_number x.0) × (x.1 ≤ length bytes)) same (below, bytes-are, long)
+
+-- ---- bodies
+
+told_is : (body rest : List ℕ) → length body ≤ 1048576 → told (spelled_body body ++ rest) ≡ length body
+unfolding told
+told_is body rest short = from_le_bytes-to_le_bytes_4 (length body) (omega (arith, short))
+
+pub body_again : (body rest : List ℕ) → length body ≤ 1048576 → body_reading (spelled_body body ++ rest) ≡ Ok (body, length (spelled_body body))
+unfolding body_reading
+body_again body rest short =
+    let is = told_is body rest short in
+    let four : ltb (length (spelled_body body ++ rest)) 4 ≡ false = le-ltb _ _ (omega (arith, length-append (spelled_body body) rest)) in
+    let most : ltb 1048576 (length body) ≡ false = le-ltb _ _ short in
+    let whole : ltb (length (body ++ rest)) (length body) ≡ false = le-ltb _ _ (omega (arith, length-append body rest)) in
+    let len : 4 + length body ≡ length (spelled_body body) = omega arith in
+    rw (four, is, most, whole, take_at body rest (length body) refl, len) refl
+
+pub body_spelled : (bytes body : List ℕ) (len : ℕ) → AreBytes bytes → body_reading bytes ≡ Ok (body, len)
+    → ((length body ≤ 1048576) × AreBytes body) × (take len bytes ≡ spelled_body body) × (len ≤ length bytes)
+unfolding body_reading told
+body_spelled bytes body len fit e =
+    let n = told bytes in
+    let rest = drop 4 bytes in
+    let third : Result (List ℕ × ℕ) WireFault = cond (ltb (length rest) n) (Err Short) (Ok (take n rest, 4 + n)) in
+    let a = guard_ok (ltb (length bytes) 4) Short (cond (ltb 1048576 n) (Err TooLong) third) (body, len) e in
+    let b = guard_ok (ltb 1048576 n) TooLong third (body, len) a.1 in
+    let d = guard_ok (ltb (length rest) n) Short (Ok (take n rest, 4 + n)) (body, len) b.1 in
+    let four : 4 ≤ length bytes = ltb-false _ _ a.0 in
+    let most : n ≤ 1048576 = ltb-false _ _ b.0 in
+    let whole : n ≤ length rest = ltb-false _ _ d.0 in
+    let same = ok_is (take n rest, 4 + n) (body, len) d.1 in
+    let size : length (take n rest) ≡ n = omega (arith, length-take n rest) in
+    let front = each_byte (take 4 bytes) (All-take (λ b. b < 2 ^ 8) 4 bytes fit) in
+    let field : take 4 bytes ≡ to_le_bytes w32 n = sym (le_bytes_4 (take 4 bytes) n (omega (arith, length-take 4 bytes)) front (front_4 bytes)) in
+    let fits : AreBytes (take n rest) = All-take (λ b. b < 2 ^ 8) n rest (All-drop (λ b. b < 2 ^ 8) 4 bytes fit) in
+    let bytes-are : take (4 + n) bytes ≡ spelled_body (take n rest) = take-add 4 n bytes ∙ rw (field, size) refl in
+    subst (λ (x : List ℕ × ℕ). ((length x.0 ≤ 1048576) × AreBytes x.0) × (take x.1 bytes ≡ spelled_body x.0) × (x.1 ≤ length bytes)) same ((rw size most, fits), bytes-are, omega (arith, length-drop 4 bytes))
+
+-- ---- pairs
+
+pub pair_again : {A B : Type 0} (first : List ℕ → Result (A × ℕ) WireFault) (second : List ℕ → Result (B × ℕ) WireFault) (a : A) (b : B) (front back rest : List ℕ)
+    → first (front ++ (back ++ rest)) ≡ Ok (a, length front) → second (back ++ rest) ≡ Ok (b, length back) → pair_reading first second ((front ++ back) ++ rest) ≡ Ok ((a, b), length (front ++ back))
+unfolding pair_reading
+pair_again {A} {B} first second a b front back rest one two =
+    let after : drop (length front) (front ++ (back ++ rest)) ≡ back ++ rest = drop_at front (back ++ rest) (length front) refl in
+    rw (append_assoc front back rest, one, after, two, length-append front back) refl
+
+pub pair_spelled : {A B : Type 0} (first : List ℕ → Result (A × ℕ) WireFault) (second : List ℕ → Result (B × ℕ) WireFault) (P : A → Type 0) (Q : B → Type 0) (s : A → List ℕ) (t : B → List ℕ)
+    → ((bytes : List ℕ) (a : A) (len : ℕ) → AreBytes bytes → first bytes ≡ Ok (a, len) → P a × (take len bytes ≡ s a) × (len ≤ length bytes))
+    → ((bytes : List ℕ) (b : B) (len : ℕ) → AreBytes bytes → second bytes ≡ Ok (b, len) → Q b × (take len bytes ≡ t b) × (len ≤ length bytes))
+    → (bytes : List ℕ) (pair : A × B) (len : ℕ) → AreBytes bytes → pair_reading first second bytes ≡ Ok (pair, len) → (P pair.0 × Q pair.1) × (take len bytes ≡ s pair.0 ++ t pair.1) × (len ≤ length bytes)
+unfolding pair_reading
+pair_spelled {A} {B} first second P Q s t one two bytes pair len fit e =
+    let a = bind_ok (first bytes) (λ a. second (drop a.1 bytes) >>= λ b. Ok ((a.0, b.0), a.1 + b.1)) (pair, len) e in
+    let b = bind_ok (second (drop a.0.1 bytes)) (λ b. Ok ((a.0.0, b.0), a.0.1 + b.1)) (pair, len) a.2 in
+    let same = ok_is ((a.0.0, b.0.0), a.0.1 + b.0.1) (pair, len) b.2 in
+    let p = one bytes a.0.0 a.0.1 fit a.1 in
+    let q = two (drop a.0.1 bytes) b.0.0 b.0.1 (All-drop (λ b. b < 2 ^ 8) a.0.1 bytes fit) b.1 in
+    let spelled : take (a.0.1 + b.0.1) bytes ≡ s a.0.0 ++ t b.0.0 = take-add a.0.1 b.0.1 bytes ∙ rw (p.1, q.1) refl in
+    subst (λ (x : (A × B) × ℕ). (P x.0.0 × Q x.0.1) × (take x.1 bytes ≡ s x.0.0 ++ t x.0.1) × (x.1 ≤ length bytes)) same ((p.0, q.0), spelled, omega (arith, p.2, q.2, length-drop a.0.1 bytes))

@@ -1,0 +1,48 @@
+-- Letters as they lie in bytes, each at a place of its own.
+use Rattle.std.specs.Prelude.{◌≡◌, ℕ, ◌+◌, ◌<◌, ◌≤◌, ◌^◌, List, [], ◌∷◌, length, take, drop, map, slice_index, All}
+use Rattle.std.specs.Int.{w32, from_le_bytes}
+use Rattle.msg_codec.specs.declared.letter.Letter.{Letter}
+use Rattle.msg_codec.specs.Bytes.{AreBytes}
+use Rattle.msg_codec.specs.Spelling.{spelled_letter, spelling}
+
+-- each field fits its type
+pub record Fits (l : Letter) : Type 0 where
+  pub to_fits : l.to < 2 ^ 32
+  pub from_fits : l.from < 2 ^ 32
+  pub tag_fits : l.tag < 2 ^ 8
+  pub body_short : length l.body ≤ 1048576
+  pub bytes_fit : AreBytes l.body
+
+-- what the length field says of the letter that the bytes begin with
+unfoldable pub told_length : List ℕ → ℕ
+told_length bytes = from_le_bytes w32 (drop 9 bytes)
+
+-- the letter that the bytes begin with
+unfoldable pub first_letter : List ℕ → Letter
+first_letter bytes = record {
+  to = from_le_bytes w32 bytes;
+  from = from_le_bytes w32 (drop 4 bytes);
+  tag = slice_index bytes 8;
+  body = take (told_length bytes) (drop 13 bytes);
+}
+
+-- the letters that begin at these places of the bytes
+abbrev pub letters_at : List ℕ → List ℕ → List Letter
+letters_at bytes places = map (λ place. first_letter (drop place bytes)) places
+
+-- where each of the letters begins, the first at the number given
+abbrev pub places_from : ℕ → List Letter → List ℕ
+places_from place [] = []
+places_from place (l ∷ letters) = place ∷ places_from (place + length (spelled_letter l)) letters
+
+-- the bytes spell the letters that begin at the places, and nothing else
+pub record IsBatch (bytes places : List ℕ) : Type 0 where
+  pub spelled : bytes ≡ spelling (letters_at bytes places)
+  pub placed : places ≡ places_from 0 (letters_at bytes places)
+  pub fit : All Fits (letters_at bytes places)
+
+-- a whole letter begins at the place
+pub record IsHeld (bytes : List ℕ) (place : ℕ) : Type 0 where
+  pub inside : place ≤ length bytes
+  pub short : told_length (drop place bytes) ≤ 1048576
+  pub whole : 13 + told_length (drop place bytes) ≤ length (drop place bytes)

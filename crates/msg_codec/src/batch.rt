@@ -1,0 +1,143 @@
+//! Many letters in one piece.
+ghost use Rattle.std.specs.Prelude.{All, ◌≡◌, ◌<◌, ◌≤◌, ◌+◌, [], ◌∷◌, ◌++◌, length, drop, slice_get, Some, OnOk, OnErr, is_ok, if◌then◌else◌};
+ghost use Rattle.std.specs.Int.{w32, to_le_bytes};
+ghost use Rattle.msg_codec.specs.Bytes.{AreBytes};
+ghost use Rattle.msg_codec.specs.Letter.{letter_of};
+ghost use Rattle.msg_codec.specs.Placed.{told_length, first_letter, Fits, IsHeld};
+ghost use Rattle.msg_codec.specs.Spelling.{header, spelled_letter, spelling};
+
+use crate::LetterRef;
+use crate::body::length_field;
+use std::alloc::{AllocError, Global};
+use std::marker::Model;
+
+/// The number of bytes before a letter's body.
+const HEADER_LEN: usize = 13;
+
+/// A list of letters, kept as it is sent: the letters' spellings, one after another.
+#[derive(Debug, Drop)]
+pub struct Batch {
+    bytes: Vec<u8>,
+    starts: Vec<usize>,
+}
+
+impl Model for Batch {
+    ghost use Rattle.std.specs.Prelude.{List};
+    ghost use Rattle.msg_codec.specs.declared.letter.Letter.{Letter};
+    ghost use Rattle.msg_codec.specs.Placed.{letters_at, IsBatch};
+
+    ghost Value = { List Letter };
+
+    ghost view = { λ batch. letters_at batch.bytes.items batch.starts.items };
+
+    ghost invariant = { λ batch. IsBatch batch.bytes.items batch.starts.items };
+}
+
+/// The header of a letter.
+fn header_of(letter: &LetterRef<'_>) -> [u8; 13]
+    ensures header { result ≡ header (letter_of letter.now) }
+    ensures fits { Fits (letter_of letter.now) }
+{
+    let to = letter.to.to_le_bytes();
+    let from = letter.from.to_le_bytes();
+    let len = length_field(letter.body);
+    [
+        to[0], to[1], to[2], to[3], from[0], from[1], from[2], from[3], letter.tag, len[0], len[1],
+        len[2], len[3],
+    ]
+}
+
+/// Appends the letter's spelling, or nothing where memory runs out.
+fn append(bytes: &mut Vec<u8>, letter: &LetterRef<'_>) -> Result<(), AllocError>
+    ensures ok { OnOk result (bytes.new.items ≡ bytes.old.items ++ spelled_letter (letter_of letter.now)) }
+    ensures err { OnErr result (bytes.new.items ≡ bytes.old.items) }
+    ensures fits { OnOk result (Fits (letter_of letter.now)) }
+{
+    bytes.reserve(letter.spelled_len())?;
+    bytes.extend_from_slice(&header_of(letter))?;
+    bytes.extend_from_slice(letter.body)?;
+    Ok(())
+}
+
+/// The letter that the bytes begin with.
+fn read_first(bytes: &[u8]) -> LetterRef<'_>
+    requires short { told_length bytes.now ≤ 1048576 }
+    requires whole { 13 + told_length bytes.now ≤ length bytes.now }
+    ensures { letter_of result ≡ first_letter bytes.now }
+{
+    let to = u32::from_le_bytes([bytes[0], bytes[1], bytes[2], bytes[3]]);
+    let from = u32::from_le_bytes([bytes[4], bytes[5], bytes[6], bytes[7]]);
+    let len = u32::from_le_bytes([bytes[9], bytes[10], bytes[11], bytes[12]]);
+    let (_, rest) = bytes.split_at(HEADER_LEN);
+    let (body, _) = rest.split_at(len as usize);
+    LetterRef {
+        to,
+        from,
+        tag: bytes[8],
+        body,
+    }
+}
+
+/// The letter that begins at the place.
+fn read_at(bytes: &[u8], place: usize) -> LetterRef<'_>
+    requires { IsHeld bytes.now place }
+    ensures { letter_of result ≡ first_letter (drop place bytes.now) }
+{
+    let (_, rest) = bytes.split_at(place);
+    read_first(rest)
+}
+
+impl Batch {
+    /// A batch of no letters. It takes no memory.
+    pub fn empty(alloc: Global) -> Batch
+        ensures { result ≡ [] }
+    {
+        Batch {
+            bytes: Vec::new(alloc),
+            starts: Vec::new(alloc),
+        }
+    }
+
+    /// Puts a letter last. Where memory runs out, the batch stays as it was.
+    pub fn push(&mut self, letter: LetterRef<'_>) -> Result<(), AllocError>
+        ensures last { OnOk result (self.new ≡ self.old ++ letter_of letter.entry ∷ []) }
+        ensures unchanged { OnErr result (self.new ≡ self.old) }
+    {
+        self.starts.reserve(1)?;
+        let start = self.bytes.len();
+        append(&mut self.bytes, &letter)?;
+        self.starts.push(start)?;
+        Ok(())
+    }
+
+    /// The number of its letters.
+    pub fn count(&self) -> u64
+        ensures { result ≡ length self.now }
+    {
+        self.starts.len() as u64
+    }
+
+    /// The number of the bytes that spell it.
+    pub fn bytes_len(&self) -> usize
+        ensures { result ≡ length (spelling self.now) }
+    {
+        self.bytes.len()
+    }
+
+    /// The letter at place `k`, counted from 0. It is found at once and not copied.
+    pub fn letter_at(&self, k: u64) -> LetterRef<'_>
+        requires { k < length self.now }
+        ensures { slice_get self.now k ≡ Some (letter_of result) }
+    {
+        let start = self.starts[k as usize];
+        read_at(&self.bytes, start)
+    }
+
+    /// The spelling of its letters.
+    pub fn as_bytes(&self) -> &[u8]
+        ensures spelled { result.now ≡ spelling self.now }
+        ensures fit { All Fits self.now }
+    {
+        self.bytes.as_slice()
+    }
+}

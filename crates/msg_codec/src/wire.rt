@@ -1,0 +1,205 @@
+//! Values as they are spelled in the bodies of letters.
+ghost use Rattle.std.specs.Prelude.{◌≡◌, ◌<◌, ◌≤◌, ◌+◌, ◌^◌, ℕ, List, ◌++◌, length, take, Result, Ok, IfOk, OnOk, OnErr};
+ghost use Rattle.std.specs.Int.{w64, to_le_bytes};
+ghost use Rattle.msg_codec.specs.declared.wire.WireFault.{WireFault};
+ghost use Rattle.msg_codec.specs.declared.wire.WireFault.TheVariants.{NoMemory};
+ghost use Rattle.msg_codec.specs.Bytes.{AreBytes};
+ghost use Rattle.msg_codec.specs.Reading.{Gives, GivesAs, number_reading, body_reading, pair_reading};
+ghost use Rattle.msg_codec.specs.Spelling.{spelled_number, spelled_body};
+
+use crate::body::{Body, MAX_BODY, length_field};
+use std::alloc::{AllocError, Global};
+
+/// Why no value could be read.
+#[derive(Clone, Copy, Debug, PartialEq, Eq, thiserror::Error)]
+pub enum WireFault {
+    /// The bytes end before the value does.
+    #[error("the bytes end before the value does")]
+    Short,
+    /// A length is above its limit, or a byte is out of its range.
+    #[error("a length or a byte is out of range")]
+    TooLong,
+    /// Memory ran out.
+    #[error("out of memory")]
+    NoMemory,
+}
+
+impl From<AllocError> for WireFault {
+    ghost from_gives = { λ _ fault. fault ≡ NoMemory };
+
+    fn from(_: AllocError) -> WireFault {
+        WireFault::NoMemory
+    }
+}
+
+/// A type whose values have one spelling each.
+pub trait Wire: Drop {
+    /// Which values are in the type's range.
+    ghost in_range: { Self → Type 0 };
+
+    /// The bytes that spell a value.
+    ghost spelled: { Self → List ℕ };
+
+    /// What reading from the front of bytes gives: the value whose spelling stands there and the length
+    /// of that spelling, or the first fault that is met.
+    ghost reading: { List ℕ → Result (Self × ℕ) WireFault };
+
+    /// Appends the spelling. Where memory runs out, nothing is appended.
+    fn put(&self, into: &mut Vec<u8>) -> Result<(), AllocError>
+        ensures appended { OnOk result (into.new.items ≡ into.old.items ++ spelled self.now) }
+        ensures unchanged { OnErr result (into.new.items ≡ into.old.items) }
+        ensures range { OnOk result (in_range self.now) };
+
+    /// Reads the value whose spelling the bytes begin with, and tells the spelling's length. Fields are
+    /// read from the front, and the fault is that of the first field that cannot be read.
+    fn get(alloc: Global, from: &[u8]) -> Result<(Self, usize), WireFault>
+        ensures exact { Gives result (reading from.now) }
+        ensures front { IfOk result (λ found. take found.1 from.now ≡ spelled found.0) }
+        ensures within { IfOk result (λ found. found.1 ≤ length from.now) }
+        ensures range { IfOk result (λ found. in_range found.0) };
+
+    /// What was put is read again, whatever follows it.
+    ghost read_again: { (value : Self) (rest : List ℕ) → in_range value → reading (spelled value ++ rest) ≡ Ok (value, length (spelled value)) };
+
+    /// What is read is spelled so.
+    ghost read_spelled: { (bytes : List ℕ) (value : Self) (len : ℕ) → AreBytes bytes → reading bytes ≡ Ok (value, len) → in_range value × (take len bytes ≡ spelled value) × (len ≤ length bytes) };
+}
+
+/// The number that the bytes begin with, and the length of its spelling.
+#[tactic(auto, unfolding(crate::specs::Reading::number_reading))]
+fn number_at(from: &[u8]) -> Result<(u64, usize), WireFault>
+    ensures exact { Gives result (number_reading from.now) }
+    ensures front { IfOk result (λ found. take found.1 from.now ≡ spelled_number found.0) }
+    ensures within { IfOk result (λ found. found.1 ≤ length from.now) }
+{
+    if from.len() < 8 {
+        return Err(WireFault::Short);
+    }
+    let number = u64::from_le_bytes([
+        from[0], from[1], from[2], from[3], from[4], from[5], from[6], from[7],
+    ]);
+    Ok((number, 8))
+}
+
+/// The body that the bytes begin with, and the length of its spelling.
+#[tactic(auto, unfolding(crate::specs::Reading::body_reading, crate::specs::Reading::told))]
+fn body_at(from: &[u8]) -> Result<(&[u8], usize), WireFault>
+    ensures exact { GivesAs (λ found. (found.0.now, found.1)) result (body_reading from.now) }
+    ensures front { IfOk result (λ found. take found.1 from.now ≡ spelled_body found.0.now) }
+    ensures within { IfOk result (λ found. found.1 ≤ length from.now) }
+    ensures short { IfOk result (λ found. length found.0.now ≤ 1048576) }
+    ensures bytes { IfOk result (λ found. AreBytes found.0.now) }
+{
+    if from.len() < 4 {
+        return Err(WireFault::Short);
+    }
+    let len = u32::from_le_bytes([from[0], from[1], from[2], from[3]]) as usize;
+    if len > MAX_BODY {
+        return Err(WireFault::TooLong);
+    }
+    let (_, rest) = from.split_at(4);
+    if rest.len() < len {
+        return Err(WireFault::Short);
+    }
+    let (body, _) = rest.split_at(len);
+    Ok((body, 4 + len))
+}
+
+/// Appends the spelling of a body, or nothing where memory runs out.
+fn put_body(body: &[u8], into: &mut Vec<u8>) -> Result<(), AllocError>
+    requires { length body.now ≤ 1048576 }
+    ensures appended { OnOk result (into.new.items ≡ into.old.items ++ spelled_body body.now) }
+    ensures unchanged { OnErr result (into.new.items ≡ into.old.items) }
+    ensures bytes { AreBytes body.now }
+{
+    let field = length_field(body);
+    into.reserve(4 + body.len())?;
+    into.extend_from_slice(&field)?;
+    into.extend_from_slice(body)?;
+    Ok(())
+}
+
+impl Wire for u64 {
+    ghost use Rattle.std.specs.Prelude.{◌<◌, ◌^◌};
+    ghost use Rattle.msg_codec.specs.Reading.{number_reading};
+    ghost use Rattle.msg_codec.specs.Spelling.{spelled_number};
+    ghost use Rattle.msg_codec.specs.Laws.{number_again, number_spelled};
+
+    ghost in_range = { λ n. n < 2 ^ 64 };
+
+    ghost spelled = { spelled_number };
+
+    ghost reading = { number_reading };
+
+    ghost read_again = { number_again };
+
+    ghost read_spelled = { number_spelled };
+
+    fn put(&self, into: &mut Vec<u8>) -> Result<(), AllocError> {
+        into.extend_from_slice(&self.to_le_bytes())
+    }
+
+    fn get(_alloc: Global, from: &[u8]) -> Result<(u64, usize), WireFault> {
+        number_at(from)
+    }
+}
+
+impl Wire for Body {
+    ghost use Rattle.std.specs.Prelude.{◌≤◌, length};
+    ghost use Rattle.msg_codec.specs.Bytes.{AreBytes};
+    ghost use Rattle.msg_codec.specs.Reading.{body_reading};
+    ghost use Rattle.msg_codec.specs.Spelling.{spelled_body};
+    ghost use Rattle.msg_codec.specs.Laws.{body_again, body_spelled};
+
+    ghost in_range = { λ body. (length body ≤ 1048576) × AreBytes body };
+
+    ghost spelled = { spelled_body };
+
+    ghost reading = { body_reading };
+
+    ghost read_again = { λ body rest fits. body_again body rest fits.0 };
+
+    ghost read_spelled = { body_spelled };
+
+    fn put(&self, into: &mut Vec<u8>) -> Result<(), AllocError> {
+        put_body(self.as_slice(), into)
+    }
+
+    fn get(alloc: Global, from: &[u8]) -> Result<(Body, usize), WireFault> {
+        let (body, len) = body_at(from)?;
+        Ok((Body::of(alloc, body)?, len))
+    }
+}
+
+impl<A: Wire, B: Wire> Wire for (A, B) {
+    ghost use Rattle.std.specs.Prelude.{◌++◌};
+    ghost use Rattle.msg_codec.specs.Reading.{pair_reading};
+    ghost use Rattle.msg_codec.specs.Laws.{pair_again, pair_spelled};
+
+    ghost in_range = { λ pair. A.in_range pair.0 × B.in_range pair.1 };
+
+    ghost spelled = { λ pair. A.spelled pair.0 ++ B.spelled pair.1 };
+
+    ghost reading = { pair_reading A.reading B.reading };
+
+    ghost read_again = { λ pair rest fits. pair_again A.reading B.reading pair.0 pair.1 (A.spelled pair.0) (B.spelled pair.1) rest (A.read_again pair.0 (B.spelled pair.1 ++ rest) fits.0) (B.read_again pair.1 rest fits.1) };
+
+    ghost read_spelled = { pair_spelled A.reading B.reading A.in_range B.in_range A.spelled B.spelled A.read_spelled B.read_spelled };
+
+    fn put(&self, into: &mut Vec<u8>) -> Result<(), AllocError> {
+        let len = into.len();
+        self.0.put(into)?;
+        if let Err(full) = self.1.put(into) {
+            into.truncate(len);
+            return Err(full);
+        }
+        Ok(())
+    }
+
+    #[tactic(auto, unfolding(crate::specs::Reading::pair_reading))]
+    fn get(alloc: Global, from: &[u8]) -> Result<((A, B), usize), WireFault> {
+        let (first, len) = A::get(alloc, from)?;
+        let (second, more) = B::get(alloc, &from[len..])?;
+        Ok(((first, second), len + more))
+    }
+}
