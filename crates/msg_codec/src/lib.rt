@@ -23,3 +23,6 @@ pub use laws::{
 pub use letter::{Letter, LetterRef};
 pub use whole::read_whole;
 pub use wire::{Wire, WireFault};
+
+#[cfg(test)]
+mod tests;
