@@ -1,9 +1,8 @@
 -- Examples of spellings and readings, worked out by hand.
-use Rattle.std.proofs.Common.{◌≡◌, ℕ, List, [], ◌∷◌, ◌++◌, Option, Some, None, Result, Ok, Err, refl}
+use Rattle.std.proofs.Common.{◌≡◌, [], ◌∷◌, Some, None, Ok, Err, refl}
 use Rattle.msg_codec.specs.declared.letter.Letter.{Letter}
-use Rattle.msg_codec.specs.declared.wire.WireFault.{WireFault}
 use Rattle.msg_codec.specs.declared.wire.WireFault.TheVariants.{Short, TooLong}
-use Rattle.msg_codec.specs.Spelling.{spelled_letter, spelling, spelled_number, spelled_body}
+use Rattle.msg_codec.specs.Spelling.{spelled_letter, spelling}
 use Rattle.msg_codec.specs.ItemCount.{spelled_item_count, item_count_of}
 use Rattle.msg_codec.specs.Reading.{number_reading, told, body_reading, pair_reading}
 

@@ -121,6 +121,13 @@ pair_again {A} {B} first second a b front back rest one two =
     let after : drop (length front) (front ++ (back ++ rest)) ≡ back ++ rest = drop_at front (back ++ rest) (length front) refl in
     rw (append_assoc front back rest, one, after, two, length-append front back) refl
 
+pair_parts : {A B : Type 0} (P : A → Type 0) (Q : B → Type 0) (s : A → List ℕ) (t : B → List ℕ) (bytes : List ℕ) (a : A) (b : B) (m n : ℕ) (pair : A × B) (len : ℕ)
+    → P a × (take m bytes ≡ s a) × (m ≤ length bytes) → Q b × (take n (drop m bytes) ≡ t b) × (n ≤ length (drop m bytes)) → found (a, b) (m + n) ≡ found pair len
+    → (P pair.0 × Q pair.1) × (take len bytes ≡ s pair.0 ++ t pair.1) × (len ≤ length bytes)
+pair_parts {A} {B} P Q s t bytes a b m n pair len p q e =
+    let spelled : take (m + n) bytes ≡ s a ++ t b = take-add m n bytes ∙ rw (p.1, q.1) refl in
+    subst (λ (x : (A × B) × ℕ). (P x.0.0 × Q x.0.1) × (take x.1 bytes ≡ s x.0.0 ++ t x.0.1) × (x.1 ≤ length bytes)) (ok_is ((a, b), m + n) (pair, len) e) ((p.0, q.0), spelled, omega (arith, p.2, q.2, length-drop m bytes))
+
 pub pair_spelled : {A B : Type 0} (first : List ℕ → Result (A × ℕ) WireFault) (second : List ℕ → Result (B × ℕ) WireFault) (P : A → Type 0) (Q : B → Type 0) (s : A → List ℕ) (t : B → List ℕ)
     → ((bytes : List ℕ) (a : A) (len : ℕ) → AreBytes bytes → first bytes ≡ Ok (a, len) → P a × (take len bytes ≡ s a) × (len ≤ length bytes))
     → ((bytes : List ℕ) (b : B) (len : ℕ) → AreBytes bytes → second bytes ≡ Ok (b, len) → Q b × (take len bytes ≡ t b) × (len ≤ length bytes))
@@ -129,11 +136,9 @@ unfolding pair_reading
 pair_spelled {A} {B} first second P Q s t one two bytes pair len fit e =
     let a = bind_ok (first bytes) (λ a. second (drop a.1 bytes) >>= λ b. Ok ((a.0, b.0), a.1 + b.1)) (pair, len) e in
     let b = bind_ok (second (drop a.0.1 bytes)) (λ b. Ok ((a.0.0, b.0), a.0.1 + b.1)) (pair, len) a.2 in
-    let same = ok_is ((a.0.0, b.0.0), a.0.1 + b.0.1) (pair, len) b.2 in
     let p = one bytes a.0.0 a.0.1 fit a.1 in
     let q = two (drop a.0.1 bytes) b.0.0 b.0.1 (All-drop (λ b. b < 2 ^ 8) a.0.1 bytes fit) b.1 in
-    let spelled : take (a.0.1 + b.0.1) bytes ≡ s a.0.0 ++ t b.0.0 = take-add a.0.1 b.0.1 bytes ∙ rw (p.1, q.1) refl in
-    subst (λ (x : (A × B) × ℕ). (P x.0.0 × Q x.0.1) × (take x.1 bytes ≡ s x.0.0 ++ t x.0.1) × (x.1 ≤ length bytes)) same ((p.0, q.0), spelled, omega (arith, p.2, q.2, length-drop a.0.1 bytes))
+    pair_parts P Q s t bytes a.0.0 b.0.0 a.0.1 b.0.1 pair len p q b.2
 
 -- ---- all of the bytes
 
