@@ -1,2 +1,5 @@
+pub mod Apart
 pub mod Bytes
+pub mod ItemCount
 pub mod Placed
+pub mod Rows

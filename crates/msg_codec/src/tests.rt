@@ -1,0 +1,121 @@
+use super::*;
+use std::alloc::AllocError;
+use std::test::*;
+
+const AB: [u8; 15] = [2, 0, 0, 0, 0, 0, 0, 0, 1, 2, 0, 0, 0, 97, 98];
+
+const X_ONCE: [u8; 13] = [1, 0, 0, 0, 120, 1, 0, 0, 0, 0, 0, 0, 0];
+
+#[test]
+fn a_batch_is_the_spelling_of_its_letters(rt: HostRuntime) -> Result<(), Fail> {
+    let mut batch = Batch::empty(rt.alloc());
+    assert_eq!(rt; batch.count(), 0);
+    assert!(rt; batch.as_bytes().is_empty());
+    let letter = Letter {
+        to: 2,
+        from: 0,
+        tag: 1,
+        body: Body::of(rt.alloc(), b"ab")?,
+    };
+    assert_eq!(rt; letter.as_ref().spelled_len(), 15);
+    batch.push(letter.as_ref())?;
+    assert_eq!(rt; batch.as_bytes(), AB.as_slice());
+    batch.push(LetterRef {
+        to: 258,
+        from: 65_536,
+        tag: 255,
+        body: &[],
+    })?;
+    assert_eq!(rt; batch.count(), 2);
+    assert_eq!(rt; batch.bytes_len(), 28);
+    let second_spelled = [2, 1, 0, 0, 0, 0, 1, 0, 255, 0, 0, 0, 0];
+    assert_eq!(rt; &batch.as_bytes()[15..], second_spelled.as_slice());
+    let first = batch.letter_at(0);
+    assert_eq!(rt; (first.to, first.from, first.tag), (2, 0, 1));
+    assert_eq!(rt; first.body, b"ab".as_slice());
+    let second = batch.letter_at(1);
+    assert_eq!(rt; (second.to, second.from, second.tag), (258, 65_536, 255));
+    assert!(rt; second.body.is_empty());
+    Ok(())
+}
+
+#[test]
+fn a_pair_is_read_as_it_was_put(rt: HostRuntime) -> Result<(), Fail> {
+    let mut bytes = Vec::new(rt.alloc());
+    let pair = (Body::of(rt.alloc(), b"x")?, 1u64);
+    pair.put(&mut bytes)?;
+    assert_eq!(rt; bytes.as_slice(), X_ONCE.as_slice());
+    bytes.push(9)?;
+    let (read, len) = <(Body, u64)>::get(rt.alloc(), &bytes)?;
+    assert_eq!(rt; read.0.as_slice(), b"x".as_slice());
+    assert_eq!(rt; read.1, 1);
+    assert_eq!(rt; len, 13);
+    Ok(())
+}
+
+#[test]
+fn the_first_fault_is_answered(rt: HostRuntime) {
+    let alloc = rt.alloc();
+    let long = [1, 0, 16, 0];
+    assert!(rt; matches!(u64::get(alloc, &X_ONCE[..7]), Err(WireFault::Short)));
+    assert!(rt; matches!(Body::get(alloc, &X_ONCE[..3]), Err(WireFault::Short)));
+    assert!(rt; matches!(Body::get(alloc, &long), Err(WireFault::TooLong)));
+    assert!(rt; matches!(Body::get(alloc, &[2, 0, 0, 0, 7]), Err(WireFault::Short)));
+    assert!(rt; matches!(<(Body, u64)>::get(alloc, &long), Err(WireFault::TooLong)));
+    assert!(rt;
+        matches!(
+            <(Body, u64)>::get(alloc, &X_ONCE[..12]),
+            Err(WireFault::Short)
+        )
+    );
+}
+
+#[test]
+fn an_item_and_its_count(rt: HostRuntime) -> Result<(), Fail> {
+    let mut bytes = Vec::new(rt.alloc());
+    put_item_count(b"x", 1, &mut bytes)?;
+    assert_eq!(rt; bytes.as_slice(), X_ONCE.as_slice());
+    let (item, count) = read_item_count(&X_ONCE).ok_or("it is an item and a count")?;
+    assert_eq!(rt; item, b"x".as_slice());
+    assert_eq!(rt; count, 1);
+    assert!(rt; read_item_count(&X_ONCE[..12]).is_none());
+    bytes.push(0)?;
+    assert!(rt; read_item_count(&bytes).is_none());
+    Ok(())
+}
+
+#[test]
+fn all_of_a_body(rt: HostRuntime) -> Result<(), Fail> {
+    let number = read_whole::<u64>(rt.alloc(), &[1, 2, 0, 0, 0, 0, 0, 0])?;
+    assert_eq!(rt; number, Some(513));
+    let more = read_whole::<u64>(rt.alloc(), &X_ONCE)?;
+    assert_eq!(rt; more, None);
+    Ok(())
+}
+
+#[test]
+fn a_counter_stops_at_its_limit(rt: HostRuntime) -> Result<(), Fail> {
+    let mut counter = Counter::new(3);
+    counter.raise(2).ok().ok_or("2 is within 3")?;
+    let at = counter.raise(2).err().ok_or("4 is above 3")?;
+    assert_eq!(rt; at.limit(), 3);
+    assert_eq!(rt; counter.count(), 2);
+    Ok(())
+}
+
+#[test]
+fn bodies_keep_their_bytes(rt: HostRuntime) -> Result<(), Fail> {
+    let body = Body::from_vec(b"ab".to_vec(rt.alloc())?);
+    assert_eq!(rt; body.as_slice(), b"ab".as_slice());
+    let text = Body2::from_vec(body.into_vec());
+    assert_eq!(rt; text.as_slice(), b"ab".as_slice());
+    assert_eq!(rt; text.into_vec().as_slice(), b"ab".as_slice());
+    Ok(())
+}
+
+#[test]
+fn faults_are_told_apart(rt: HostRuntime) -> Result<(), Fail> {
+    let text = format!(in rt.alloc(); "{}", WireFault::from(AllocError))?;
+    assert_eq!(rt; text.as_str(), "out of memory");
+    Ok(())
+}
