@@ -1,2 +1,4 @@
+pub mod Apart
 pub mod Bytes
+pub mod ItemCount
 pub mod Placed

@@ -4,7 +4,7 @@ use Rattle.std.specs.Prelude.{slice_get}
 use Rattle.std.specs.Option.{option_map}
 use Rattle.std.proofs.lemmas.Option.{slice_get-map, slice_get-get_or}
 use Rattle.std.specs.Int.{w32, from_le_bytes}
-use Rattle.std.proofs.lemmas.List.{take_at, drop_at, append-nil, length-map, get_or-drop}
+use Rattle.std.proofs.lemmas.List.{append_cancel_left, take_at, drop_at, append-nil, length-map, get_or-drop}
 use Rattle.std.proofs.lemmas.List.Elements.{All-tail, All-push}
 use Rattle.std.proofs.lemmas.Grind.{flat_map-append}
 use Rattle.std.proofs.lemmas.Nat.{from_le_bytes-to_le_bytes_4}
@@ -114,3 +114,16 @@ found bytes starts letters k place same lt at =
     let lt2 : k < length (letters_at bytes starts) = rw same lt in
     let lt3 : k < length starts = rw length-map at lt2 in
     rw (← same) (slice_get-map (λ p. first_letter (drop p bytes)) starts k ∙ ap (option_map (λ p. first_letter (drop p bytes))) (slice_get-get_or starts k place lt3 ∙ ap Some (sym at)))
+
+pub letter_is : (l m : Letter) (x y : List ℕ) → Fits l → Fits m → spelled_letter l ++ x ≡ spelled_letter m ++ y → l ≡ m
+letter_is l m x y p q e = sym (first_again l x p) ∙ ap first_letter e ∙ first_again m y q
+
+pub lists_are : (letters others : List Letter) → All Fits letters → All Fits others → spelling letters ≡ spelling others → letters ≡ others
+lists_are [] [] p q e = refl
+lists_are [] (m ∷ others) p q e = absurd cc
+lists_are (l ∷ letters) [] p q e = absurd cc
+lists_are (l ∷ letters) (m ∷ others) p q e =
+    let head : l ≡ m = letter_is l m (spelling letters) (spelling others) (p 0 l (omega arith)) (q 0 m (omega arith)) e in
+    let rest : spelling letters ≡ spelling others = append_cancel_left (spelled_letter m) (spelling letters) (spelling others) (ap (λ (x : Letter). spelled_letter x ++ spelling letters) (sym head) ∙ e) in
+    let tail = lists_are letters others (All-tail Fits l letters p) (All-tail Fits m others q) rest in
+    cc

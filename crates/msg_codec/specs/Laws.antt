@@ -1,15 +1,16 @@
 -- The laws of the spellings: what was spelled is read again, and what is read is spelled so.
-use Rattle.std.proofs.Common.{◌≡◌, lit<, ℕ, ◌+◌, ◌^◌, ◌<◌, ◌≤◌, Bool, true, false, cond, ltb, List, [], ◌∷◌, ◌++◌, length, get_or, take, drop, Result, Ok, Err, refl, sym, ap, subst, ◌∙◌, append_assoc, arith, length-append, length-drop, inl, inr}
+use Rattle.std.proofs.Common.{◌≡◌, lit<, ℕ, ◌+◌, ◌^◌, ◌<◌, ◌≤◌, Bool, true, false, cond, ltb, eqb, Some, None, List, [], ◌++◌, length, get_or, take, drop, Result, Ok, Err, refl, sym, ap, subst, ◌∙◌, append_assoc, arith, eq-eqb, length-append, length-drop, inl, inr}
 use Rattle.std.specs.Int.{w32, w64, to_le_bytes, from_le_bytes}
-use Rattle.std.proofs.lemmas.Bool.{cases_lt, ltb-false, le-ltb}
-use Rattle.std.proofs.lemmas.List.{take_at, drop_at, length-take, get_or-take, get_or_past}
+use Rattle.std.proofs.lemmas.Bool.{eqb-true, cases_lt, ltb-false, le-ltb}
+use Rattle.std.proofs.lemmas.List.{append-nil, take_at, drop_at, length-take, get_or-take, get_or_past}
 use Rattle.std.proofs.lemmas.List.Elements.{All-take, All-drop}
-use Rattle.std.proofs.Math.Seq.{take-add}
+use Rattle.std.proofs.Math.Seq.{take-add, take-length}
 use Rattle.std.proofs.lemmas.Nat.{le_bytes_4, le_bytes_8, from_le_bytes-to_le_bytes_4, from_le_bytes-to_le_bytes_8}
 use Rattle.msg_codec.specs.declared.wire.WireFault.{WireFault}
 use Rattle.msg_codec.specs.declared.wire.WireFault.TheVariants.{Short, TooLong}
 use Rattle.msg_codec.specs.Bytes.{AreBytes}
-use Rattle.msg_codec.specs.Reading.{◌>>=◌, number_reading, told, body_reading, pair_reading}
+use Rattle.msg_codec.specs.Reading.{◌>>=◌, number_reading, told, body_reading, pair_reading, if_whole, whole}
+use Rattle.msg_codec.specs.ItemCount.{spelled_item_count, item_count_of}
 use Rattle.msg_codec.specs.Spelling.{spelled_number, spelled_body}
 
 -- past the end stands 0, which is a byte too
@@ -35,6 +36,16 @@ done x = Ok x
 
 ok_is : {A : Type 0} (x y : A) → done x ≡ done y → x ≡ y
 ok_is x y e = cc
+
+abbrev found : {A : Type 0} → A → ℕ → Result (A × ℕ) WireFault
+found x len = Ok (x, len)
+
+same_found : {A : Type 0} (x y : A) (i j : ℕ) → x ≡ y → i ≡ j → found x i ≡ found y j
+same_found x y i j e f = cc
+
+some_if : {A : Type 0} (b : Bool) (x v : A) (i len : ℕ) → b ≡ eqb i len → cond b (Some x) None ≡ Some v → found x i ≡ found v len
+some_if true x v i len is e = same_found x v i len (cc) (eqb-true _ _ (sym is))
+some_if false x v i len is e = absurd cc
 
 -- ---- numbers
 
@@ -123,3 +134,34 @@ pair_spelled {A} {B} first second P Q s t one two bytes pair len fit e =
     let q = two (drop a.0.1 bytes) b.0.0 b.0.1 (All-drop (λ b. b < 2 ^ 8) a.0.1 bytes fit) b.1 in
     let spelled : take (a.0.1 + b.0.1) bytes ≡ s a.0.0 ++ t b.0.0 = take-add a.0.1 b.0.1 bytes ∙ rw (p.1, q.1) refl in
     subst (λ (x : (A × B) × ℕ). (P x.0.0 × Q x.0.1) × (take x.1 bytes ≡ s x.0.0 ++ t x.0.1) × (x.1 ≤ length bytes)) same ((p.0, q.0), spelled, omega (arith, p.2, q.2, length-drop a.0.1 bytes))
+
+-- ---- all of the bytes
+
+some_is : {A : Type 0} (x y : A) → Some x ≡ Some y → x ≡ y
+some_is x y e = cc
+
+if_whole_some : {A : Type 0} (len : ℕ) (r : Result (A × ℕ) WireFault) (v : A) → if_whole len r ≡ Some v → r ≡ Ok (v, len)
+if_whole_some len (Ok (x, i)) v e = some_if (eqb i len) x v i len refl e
+if_whole_some len (Err d) v e = absurd cc
+
+-- What is found in all of the bytes is read from their front, and nothing is left.
+pub whole_is : {A : Type 0} (reading : List ℕ → Result (A × ℕ) WireFault) (bytes : List ℕ) (v : A) → whole reading bytes ≡ Some v → reading bytes ≡ Ok (v, length bytes)
+whole_is reading bytes v e = if_whole_some (length bytes) (reading bytes) v e
+
+pub whole_again : {A : Type 0} (reading : List ℕ → Result (A × ℕ) WireFault) (bytes : List ℕ) (v : A) → reading bytes ≡ Ok (v, length bytes) → whole reading bytes ≡ Some v
+whole_again reading bytes v e = rw (e, eq-eqb (length bytes) (length bytes) refl) refl
+
+pub item_count_again : (item : List ℕ) (count : ℕ) → length item ≤ 1048576 → count < 2 ^ 64 → item_count_of (spelled_item_count item count) ≡ Some (item, count)
+unfolding item_count_of
+item_count_again item count short lt =
+    let bytes = spelled_item_count item count in
+    let one = pair_again body_reading number_reading item count (spelled_body item) (spelled_number count) [] (body_again item (spelled_number count ++ []) short) (number_again count [] lt) in
+    let read : pair_reading body_reading number_reading bytes ≡ Ok ((item, count), length bytes) = ap (pair_reading body_reading number_reading) (sym (append-nil bytes)) ∙ one in
+    whole_again (pair_reading body_reading number_reading) bytes (item, count) read
+
+pub item_count_spelled : (bytes item : List ℕ) (count : ℕ) → AreBytes bytes → item_count_of bytes ≡ Some (item, count) → (length item ≤ 1048576) × (count < 2 ^ 64) × (bytes ≡ spelled_item_count item count)
+unfolding item_count_of
+item_count_spelled bytes item count fit e =
+    let read = whole_is (pair_reading body_reading number_reading) bytes (item, count) e in
+    let p = pair_spelled body_reading number_reading (λ body. (length body ≤ 1048576) × AreBytes body) (λ n. n < 2 ^ 64) spelled_body spelled_number body_spelled number_spelled bytes (item, count) (length bytes) fit read in
+    (p.0.0.0, p.0.1, sym (take-length bytes) ∙ p.1)

@@ -44,6 +44,11 @@ GivesAs view (Err e) read = Fails e read
 abbrev pub Gives : {X : Type 0} → Result X WireFault → Result X WireFault → Type 0
 Gives {X} result read = GivesAs (λ (x : X). x) result read
 
+-- What a function that takes no memory answered, seen by view, is what reading gives.
+abbrev pub IsReading : {X Y : Type 0} → (X → Y) → Result X WireFault → Result Y WireFault → Type 0
+IsReading view (Ok x) read = read ≡ Ok (view x)
+IsReading view (Err fault) read = read ≡ Err fault
+
 -- The value whose spelling is all of the bytes.
 abbrev pub if_whole : {A : Type 0} → ℕ → Result (A × ℕ) WireFault → Option A
 if_whole len (Ok found) = if found.1 == len then Some found.0 else None

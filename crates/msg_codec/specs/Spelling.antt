@@ -21,7 +21,3 @@ spelled_number n = to_le_bytes w64 n
 -- the length of a body as four bytes, and its bytes
 abbrev pub spelled_body : List ℕ → List ℕ
 spelled_body body = to_le_bytes w32 (length body) ++ body
-
--- an item of a counting set and how many of it
-abbrev pub spelled_item_count : List ℕ → ℕ → List ℕ
-spelled_item_count item count = spelled_body item ++ spelled_number count

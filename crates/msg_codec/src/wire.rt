@@ -4,7 +4,7 @@ ghost use Rattle.std.specs.Int.{w64, to_le_bytes};
 ghost use Rattle.msg_codec.specs.declared.wire.WireFault.{WireFault};
 ghost use Rattle.msg_codec.specs.declared.wire.WireFault.TheVariants.{NoMemory};
 ghost use Rattle.msg_codec.specs.Bytes.{AreBytes};
-ghost use Rattle.msg_codec.specs.Reading.{Gives, GivesAs, number_reading, body_reading, pair_reading};
+ghost use Rattle.msg_codec.specs.Reading.{Gives, IsReading, number_reading, body_reading, pair_reading};
 ghost use Rattle.msg_codec.specs.Spelling.{spelled_number, spelled_body};
 
 use crate::body::{Body, MAX_BODY, length_field};
@@ -67,8 +67,8 @@ pub trait Wire: Drop {
 
 /// The number that the bytes begin with, and the length of its spelling.
 #[tactic(auto, unfolding(crate::specs::Reading::number_reading))]
-fn number_at(from: &[u8]) -> Result<(u64, usize), WireFault>
-    ensures exact { Gives result (number_reading from.now) }
+pub(crate) fn number_at(from: &[u8]) -> Result<(u64, usize), WireFault>
+    ensures exact { IsReading (λ found. found) result (number_reading from.now) }
     ensures front { IfOk result (λ found. take found.1 from.now ≡ spelled_number found.0) }
     ensures within { IfOk result (λ found. found.1 ≤ length from.now) }
 {
@@ -83,8 +83,8 @@ fn number_at(from: &[u8]) -> Result<(u64, usize), WireFault>
 
 /// The body that the bytes begin with, and the length of its spelling.
 #[tactic(auto, unfolding(crate::specs::Reading::body_reading, crate::specs::Reading::told))]
-fn body_at(from: &[u8]) -> Result<(&[u8], usize), WireFault>
-    ensures exact { GivesAs (λ found. (found.0.now, found.1)) result (body_reading from.now) }
+pub(crate) fn body_at(from: &[u8]) -> Result<(&[u8], usize), WireFault>
+    ensures exact { IsReading (λ found. (found.0.now, found.1)) result (body_reading from.now) }
     ensures front { IfOk result (λ found. take found.1 from.now ≡ spelled_body found.0.now) }
     ensures within { IfOk result (λ found. found.1 ≤ length from.now) }
     ensures short { IfOk result (λ found. length found.0.now ≤ 1048576) }

@@ -1,0 +1,55 @@
+//! An item and how many of it, as the letters that add to a counting set carry them.
+ghost use Rattle.std.specs.Prelude.{◌≡◌, ◌≢◌, ◌<◌, ◌≤◌, ◌^◌, ℕ, List, ◌++◌, length, IfSome, IfNone, OnOk, OnErr};
+ghost use Rattle.std.specs.Option.{option_map};
+ghost use Rattle.msg_codec.specs.Reading.{IsReading, number_reading, body_reading, pair_reading};
+ghost use Rattle.msg_codec.specs.ItemCount.{spelled_item_count, item_count_of};
+
+use crate::body::{MAX_BODY, length_field};
+use crate::wire::{WireFault, body_at, number_at};
+use std::alloc::AllocError;
+
+/// Appends the spelling of an item and its count, as `Wire::put` of the pair does, from an item that
+/// lies elsewhere. Where memory runs out, nothing is appended.
+pub fn put_item_count(item: &[u8], count: u64, into: &mut Vec<u8>) -> Result<(), AllocError>
+    requires { length item.now ≤ MAX_BODY }
+    ensures appended { OnOk result (into.new.items ≡ into.old.items ++ spelled_item_count item.now count) }
+    ensures unchanged { OnErr result (into.new.items ≡ into.old.items) }
+{
+    into.reserve(12 + item.len())?;
+    into.extend_from_slice(&length_field(item))?;
+    into.extend_from_slice(item)?;
+    into.extend_from_slice(&count.to_le_bytes())?;
+    Ok(())
+}
+
+/// The item and the count that the bytes begin with, and the length of their spelling.
+#[tactic(auto, unfolding(crate::specs::Reading::pair_reading))]
+fn item_count_at(from: &[u8]) -> Result<((&[u8], u64), usize), WireFault>
+    ensures { IsReading (λ found. ((found.0.0.now, found.0.1), found.1)) result (pair_reading body_reading number_reading from.now) }
+{
+    let (item, len) = body_at(from)?;
+    let (_, rest) = from.split_at(len);
+    let (count, more) = number_at(rest)?;
+    Ok(((item, count), len + more))
+}
+
+#[tactic(auto, unfolding(crate::specs::ItemCount::item_count_of))]
+fn whole_item_count(body: &[u8]) -> Option<(&[u8], u64)>
+    ensures { option_map (λ found. (found.0.now, found.1)) result ≡ item_count_of body.now }
+{
+    match item_count_at(body) {
+        Ok((found, len)) if len == body.len() => Some(found),
+        _ => None,
+    }
+}
+
+/// The item and the count that the body is the spelling of. `None` where it is no such spelling, be it
+/// too short, too long or of a length that no item has.
+pub fn read_item_count(body: &[u8]) -> Option<(&[u8], u64)>
+    ensures found { IfSome result (λ found. body.now ≡ spelled_item_count found.0.now found.1) }
+    ensures short { IfSome result (λ found. length found.0.now ≤ MAX_BODY) }
+    ensures none { IfNone result ((item : List ℕ) (count : ℕ) → length item ≤ MAX_BODY → count < 2 ^ 64 → body.now ≢ spelled_item_count item count) }
+    ensures exact { option_map (λ found. (found.0.now, found.1)) result ≡ item_count_of body.now }
+{
+    whole_item_count(body)
+}
