@@ -1,0 +1,10 @@
+use Rattle.std.proofs.Common.{drop}
+use Rattle.std.specs.List.{FoldsTo}
+use Rattle.counting_set.specs.Shown.{ShownTo}
+use Rattle.counting_set.proofs.counting.Counting.for_all.Given as goal
+
+-- where the calls at the rest end, the calls at all end
+abbrev pub invariant-loop-k : goal.invariant-loop-k
+invariant-loop-k g l =
+    goal.F-IsAlwaysCallable g l.f
+    × ((last : _) → FoldsTo (ShownTo g.F.FnMut) l.f (drop l.k l.self) last → FoldsTo (ShownTo g.F.FnMut) l.fn.f l.fn.self last)

@@ -1,0 +1,5 @@
+use Rattle.counting_set.proofs.Sums.{handed-none}
+use Rattle.counting_set.proofs.laws.counting_sends_nothing.Goals as goal
+
+pub returns : goal.returns
+returns c = handed-none

@@ -1,0 +1,5 @@
+use Rattle.counting_set.proofs.Sums.{counts_are_sums}
+use Rattle.counting_set.proofs.laws.counts_are_sums.Goals as goal
+
+pub returns : goal.returns
+returns c = counts_are_sums

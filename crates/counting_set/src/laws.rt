@@ -1,0 +1,35 @@
+//! The laws of a counting set. Each is the contract of a function that does nothing.
+ghost use Rattle.std.specs.Prelude.{◌≡◌, ◌+◌, ◌^◌, ◌<◌, ◌≤◌, ℕ, List, [], Some, All, length, map, sum_by};
+ghost use Rattle.msg_codec.specs.Bytes.{AreBytes};
+ghost use Rattle.msg_codec.specs.declared.letter.Letter.{Letter};
+ghost use Rattle.comm_rank.specs.Fold.{fold_from, handed_from};
+ghost use Rattle.counting_set.specs.Counting.{Counts, AreCounted, counting_apply, count_in, held, adds, adds_of, add_letter};
+
+use crate::counting::MAX_ITEM;
+
+/// Where letters add one of each line, a new shard has each line once, with the number of lines that
+/// are equal to it, and nothing else.
+pub fn adds_of_one_are_counted()
+    ensures { (here ranks : ℕ) (letters : List Letter) (lines : List (List ℕ)) →
+        map adds letters ≡ map (λ line. Some (line, 1)) lines → length lines < 2 ^ 64 →
+        AreCounted (fold_from counting_apply here ranks [] letters) lines }
+{}
+
+/// Whatever letters run, the count of an item is what it was and what they add to it, up to the end of
+/// the type.
+pub fn counts_are_sums()
+    ensures { (here ranks : ℕ) (contents : Counts) (letters : List Letter) (item : List ℕ) →
+        count_in contents item < 2 ^ 64 → All (λ l. AreBytes l.body) letters →
+        count_in (fold_from counting_apply here ranks contents letters) item ≡ held (count_in contents item + sum_by (adds_of item) letters) }
+{}
+
+/// A counting set sends nothing.
+pub fn counting_sends_nothing()
+    ensures { (here ranks : ℕ) (contents : Counts) (letters : List Letter) →
+        handed_from counting_apply here ranks contents letters ≡ [] }
+{}
+
+/// The letter that `count_insert` sends adds one of its item.
+pub fn an_insert_adds_one()
+    ensures { (to from : ℕ) (item : List ℕ) → length item ≤ MAX_ITEM → adds (add_letter to from item) ≡ Some (item, 1) }
+{}

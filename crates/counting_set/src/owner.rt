@@ -1,0 +1,37 @@
+//! Which rank owns a key.
+ghost use Rattle.std.specs.Prelude.{◌≡◌, ◌<◌, ◌≤◌};
+ghost use Rattle.counting_set.specs.Owner as spec;
+
+/// Where the hash starts.
+const OFFSET_BASIS: u64 = 14_695_981_039_346_656_037;
+
+/// What the hash is multiplied by.
+const PRIME: u64 = 1_099_511_628_211;
+
+// The hash with one byte more.
+#[tactic(auto, unfolding(crate::specs::Owner::fnv_step))]
+fn hashed(hash: u64, byte: u8) -> u64
+    ensures { result ≡ spec.fnv_step hash byte }
+{
+    (hash ^ u64::from(byte)).wrapping_mul(PRIME)
+}
+
+/// The 64-bit FNV-1a hash of Fowler, Noll and Vo.
+pub fn fnv(bytes: &[u8]) -> u64
+    ensures { result ≡ spec.fnv bytes.now }
+{
+    let mut hash = OFFSET_BASIS;
+    for byte in bytes {
+        hash = hashed(hash, *byte);
+    }
+    hash
+}
+
+/// The rank that a key belongs to, in a world of so many ranks: its hash modulo their number.
+pub fn owner_of_key(key: &[u8], ranks: u32) -> u32
+    requires { 1 ≤ ranks }
+    ensures value { result ≡ spec.owner_of_key key.now ranks }
+    ensures below { result < ranks }
+{
+    (fnv(key) % u64::from(ranks)) as u32
+}
