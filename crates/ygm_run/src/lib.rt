@@ -1,0 +1,7 @@
+//! The texts that the jobs write.
+#![tactic(auto)]
+
+pub mod tally_text;
+
+#[cfg(test)]
+mod tests;
