@@ -1,5 +1,5 @@
 -- The text of counted items, in byte order, is that of the lines that they count.
-use Rattle.std.proofs.Common.{◌≡◌, ◌≢◌, ◌↔◌, ℕ, ◌+◌, ◌<◌, ◌⊎◌, List, [], ◌∷◌, ◌++◌, map, length, get_or, AllPairs, Contains, IsPermutation, IsSorted, flat_map, bytes_eq, Bool, true, false, Ordering, Less, Equal, Greater, nat_cmp, is_lt, inl, inr, refl, sym, ap, ap₂, ◌∙◌, subst, arith, ⊎_elim}
+use Rattle.std.proofs.Common.{◌≡◌, ◌≢◌, ◌↔◌, ℕ, ◌+◌, ◌<◌, List, [], ◌∷◌, ◌++◌, map, length, get_or, AllPairs, Contains, IsPermutation, IsSorted, flat_map, bytes_eq, Bool, true, false, Ordering, Less, Equal, Greater, nat_cmp, is_lt, refl, sym, ap, ap₂, ◌∙◌, subst, arith}
 use Rattle.std.specs.List.{All, IsDistinct}
 use Rattle.std.specs.Ordering.{ordering_then, ordering_reverse}
 use Rattle.std.proofs.lemmas.Cmp.{nat_list_cmp_total, nat_list_eq_equiv}
@@ -13,7 +13,7 @@ use Rattle.std.proofs.lemmas.Slice.Eq.{bytes_eq-Decides}
 use denote.Ref.{Bor}
 use Rattle.ygm_run.specs.Tally.{AreCounts, IsBefore, IsTableOf, all_lines, byte_order, distinct_items, pair_order, pairs_of, table_with, tally_row, tally_rows, tally_text, times}
 use Rattle.ygm_run.proofs.Counting.{Contains-from_times, times_from_Contains, times-IsPermutation}
-use Rattle.ygm_run.proofs.InOrder.{Rises, rises_from_pairs, pairs_from_rises, same_items, Rises-distinct_items, Contains-distinct_items}
+use Rattle.ygm_run.proofs.InOrder.{Rises, same_items, Rises-distinct_items, Contains-distinct_items}
 use Rattle.ygm_run.proofs.Members.{Contains-map, from_map}
 
 abbrev pub Pair : Type 0
@@ -66,11 +66,11 @@ rises_from_sorted sorted up once =
     let none : Pair = ([], 0) in
     sorted_from_all_adjacent nat_list_cmp_total (items_of sorted) []
     (λ k within.
-      let inside : k + 1 < length sorted = omega (arith, length-map sorted (λ (p : Pair). p.0)) in
-      let at = get_or-map (λ (p : Pair). p.0) sorted k none [] (omega arith) in
-      let next = get_or-map (λ (p : Pair). p.0) sorted (k + 1) none [] inside in
-      let rise = rises_at (get_or sorted k none) (get_or sorted (k + 1) none) (up k none (omega arith) inside) (once k (k + 1) none (omega arith) inside) _ refl in
-      ap₂ byte_order at next ∙ rise)
+    let inside : k + 1 < length sorted = omega (arith, length-map sorted (λ (p : Pair). p.0)) in
+    let at = get_or-map (λ (p : Pair). p.0) sorted k none [] (omega arith) in
+    let next = get_or-map (λ (p : Pair). p.0) sorted (k + 1) none [] inside in
+    let rise = rises_at (get_or sorted k none) (get_or sorted (k + 1) none) (up k none (omega arith) inside) (once k (k + 1) none (omega arith) inside) _ refl in
+    ap₂ byte_order at next ∙ rise)
 
 -- ---- the text
 
@@ -99,8 +99,8 @@ table_is_text items files rises same =
     let lines = all_lines files in
     ap (λ l. table_with l lines)
     (same_items (distinct_items lines) items (Rises-distinct_items lines) rises
-      (λ q among. (same q).1 ((Contains-distinct_items lines q).0 among))
-      (λ q among. (Contains-distinct_items lines q).1 ((same q).0 among)))
+    (λ q among. (same q).1 ((Contains-distinct_items lines q).0 among))
+    (λ q among. (Contains-distinct_items lines q).1 ((same q).0 among)))
 
 -- the table of counts is the text of the lines that they count
 pub table_of_counts : (counted : List Pair) (text : List ℕ) (files : List (List (List ℕ))) → IsTableOf counted text → AreCounts counted (all_lines files) → text ≡ tally_text files
@@ -138,8 +138,8 @@ table_from_sort entries sorted text moved up rows = record {
   sorted = pairs_of sorted;
   same_pairs = IsPermutation-map pair_of entries sorted moved;
   in_order = λ k d low within.
-    let e : Entry = (record { ref_ptr = (0, 0); now = d.0 }, d.1) in
-    let inside : k + 1 < length sorted = omega (arith, length-map sorted pair_of) in
-    ap₂ (λ a b. is_lt (pair_order a b)) (get_or-map pair_of sorted (k + 1) e d inside) (get_or-map pair_of sorted k e d (omega arith)) ∙ up k e low inside;
+      let e : Entry = (record { ref_ptr = (0, 0); now = d.0 }, d.1) in
+      let inside : k + 1 < length sorted = omega (arith, length-map sorted pair_of) in
+      ap₂ (λ a b. is_lt (pair_order a b)) (get_or-map pair_of sorted (k + 1) e d inside) (get_or-map pair_of sorted k e d (omega arith)) ∙ up k e low inside;
   rows = rows;
 }

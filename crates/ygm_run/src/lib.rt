@@ -2,6 +2,3 @@
 #![tactic(auto)]
 
 pub mod tally_text;
-
-#[cfg(test)]
-mod tests;

@@ -14,5 +14,5 @@ returns c =
     record {
       table = table;
       tally = IfOk-weaker c.rows_of.result (λ text. IsTableOf (pairs_of entries) text.items) (λ text. (files : List (List (List ℕ))) → AreCounts (pairs_of entries) (all_lines files) → text.items ≡ tally_text files)
-      (λ text is files counts. table_of_counts (pairs_of entries) text.items files is counts) table;
+          (λ text is files counts. table_of_counts (pairs_of entries) text.items files is counts) table;
     }
