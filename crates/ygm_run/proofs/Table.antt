@@ -10,7 +10,7 @@ use Rattle.std.proofs.lemmas.List.Sorted.{IsPermutation-sym, IsPermutation-map, 
 use Rattle.std.proofs.lemmas.Map.Keys.{IsDistinct-from_apart, apart_from_distinct, IsDistinct-IsPermutation, sorted_from_all_adjacent}
 use Rattle.std.proofs.lemmas.Map.Lookups.{exact_bytes}
 use Rattle.std.proofs.lemmas.Slice.Eq.{bytes_eq-Decides}
-use denote.Ref.{Bor}
+use Rattle.std.specs.Borrow.{Bor}
 use Rattle.ygm_run.specs.Tally.{AreCounts, IsBefore, IsTableOf, all_lines, byte_order, distinct_items, pair_order, pairs_of, table_with, tally_row, tally_rows, tally_text, times}
 use Rattle.ygm_run.proofs.Counting.{Contains-from_times, times_from_Contains, times-IsPermutation}
 use Rattle.ygm_run.proofs.InOrder.{Rises, same_items, Rises-distinct_items, Contains-distinct_items}
@@ -34,14 +34,11 @@ told_apart a b false e other = refl
 differ : (a b : List ℕ) → bytes_eq a b ≡ false → a ≢ b
 differ a b other is = let same = (bytes_eq-Decides a b).1 is in cc
 
-flips : (a b : List ℕ) → bytes_eq a b ≡ bytes_eq b a
-flips a b = nat_list_eq_equiv.symm a b
-
 once_in_other_order : (counted sorted : List Pair) → IsPermutation counted sorted → AllPairs (λ pair later. pair.0 ≢ later.0) counted → AllPairs (λ pair later. pair.0 ≢ later.0) sorted
 unfolding same_pair_item
 once_in_other_order counted sorted moved once i j d less within =
     let apart : IsDistinct same_pair_item counted = IsDistinct-from_apart same_pair_item counted (λ a b e h k. told_apart (get_or counted a e).0 (get_or counted b e).0 _ refl (once a b e h k)) in
-    let still : IsDistinct same_pair_item sorted = IsDistinct-IsPermutation same_pair_item (λ p q. flips p.0 q.0) counted sorted moved apart in
+    let still : IsDistinct same_pair_item sorted = IsDistinct-IsPermutation same_pair_item (λ p q. nat_list_eq_equiv.symm p.0 q.0) counted sorted moved apart in
     differ _ _ (apart_from_distinct same_pair_item sorted i j d still less within)
 
 pub AreCounts-permutation : (counted sorted : List Pair) (lines : List (List ℕ)) → IsPermutation counted sorted → AreCounts counted lines → AreCounts sorted lines

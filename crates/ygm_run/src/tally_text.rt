@@ -33,8 +33,8 @@ use std::alloc::{AllocError, Global};
 /// The entries are taken in any order; one whose item stands in two entries has two rows, the lower
 /// count first. An error is want of memory; nothing is left of the text then.
 pub fn table_of(alloc: Global, mut entries: Vec<(&[u8], u64)>) -> Result<Vec<u8>, AllocError>
-    ensures table { IfOk result (λ text. IsTableOf (pairs_of entries.entry.items) text.items) }
-    ensures tally { IfOk result (λ text. (files : List (List (List ℕ))) →
+    ensures sorted_rows { IfOk result (λ text. IsTableOf (pairs_of entries.entry.items) text.items) }
+    ensures text_of_counted_lines { IfOk result (λ text. (files : List (List (List ℕ))) →
         AreCounts (pairs_of entries.entry.items) (all_lines files) → text.items ≡ tally_text files) }
 {
     entries.sort_unstable();

@@ -12,7 +12,7 @@ returns c =
     (λ text rows. table_from_sort entries c.sort_unstable.new.self.items text.items c.sort_unstable.ensures.permutation c.sort_unstable.ensures.sorted (rows ∙ ap (λ l. tally_rows (pairs_of l)) c.deref.ensures.value))
     c.rows_of.ensures in
     record {
-      table = table;
-      tally = IfOk-weaker c.rows_of.result (λ text. IsTableOf (pairs_of entries) text.items) (λ text. (files : List (List (List ℕ))) → AreCounts (pairs_of entries) (all_lines files) → text.items ≡ tally_text files)
+      sorted_rows = table;
+      text_of_counted_lines = IfOk-weaker c.rows_of.result (λ text. IsTableOf (pairs_of entries) text.items) (λ text. (files : List (List (List ℕ))) → AreCounts (pairs_of entries) (all_lines files) → text.items ≡ tally_text files)
           (λ text is files counts. table_of_counts (pairs_of entries) text.items files is counts) table;
     }
