@@ -1,0 +1,6 @@
+pub mod Members
+pub mod InOrder
+pub mod Counting
+pub mod Table
+pub mod Shards
+pub mod Rows
