@@ -201,3 +201,6 @@ impl LineReader {
         self.given
     }
 }
+
+#[cfg(test)]
+mod tests;
