@@ -1,6 +1,11 @@
-pub mod Members
-pub mod InOrder
 pub mod Counting
-pub mod Table
+pub mod Cuts
+pub mod InOrder
+pub mod LineRows
+pub mod Members
+pub mod Parts
 pub mod Shards
-pub mod Rows
+pub mod Table
+pub mod TallyRows
+pub mod Texts
+pub mod Told

@@ -1,1 +1,6 @@
+pub mod Carried
+pub mod Lines
+pub mod Pieces
+pub mod Reading
 pub mod Tally
+pub mod Turns

@@ -1,0 +1,8 @@
+//! The program `ygm_run`: jobs over ranks that count, group and walk large data.
+#![tactic(auto)]
+
+pub mod line_reader;
+mod pieces;
+pub mod tally_text;
+
+fn main() {}
