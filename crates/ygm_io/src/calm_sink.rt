@@ -8,6 +8,7 @@ use crate::{Failed, Sink};
 pub struct CalmSink;
 
 impl CalmSink {
+    /// A sink that holds nothing.
     pub fn new() -> CalmSink {
         CalmSink
     }

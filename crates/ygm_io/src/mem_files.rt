@@ -63,7 +63,8 @@ impl MemFiles {
     }
 
     /// Adds a file with a copy of `bytes`. The reads whose numbers stand in `fails` fail in each source
-    /// that is opened from it. Of files of one name the one that was added last is opened.
+    /// that is opened from it, by their numbers in that source. Of files of one name the one that was
+    /// added last is opened.
     pub fn add(&mut self, name: &str, bytes: &[u8], fails: &[u64]) -> Result<(), AllocError>
         ensures added { OnOk result (self.new.files.items ≡
             self.old.files.items ++ (name.now, record { bytes = bytes.now; fails = fails.now }) ∷ []) }

@@ -14,6 +14,7 @@ pub struct StdFiles<R> {
 }
 
 impl<R: std::rt::Files> StdFiles<R> {
+    /// The files that `runtime` reaches. It may be a reference.
     pub fn new(runtime: R) -> StdFiles<R>
         ensures fresh { result.faults ≡ 0 }
         ensures same { result.runtime ≡ runtime }

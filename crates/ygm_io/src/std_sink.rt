@@ -6,7 +6,8 @@ ghost use Rattle.ygm_io.specs.Faults.{Rose};
 use crate::{Failed, Sink};
 use std::io::{ErrorKind, Write};
 
-/// A sink over a writer of std. It tells no bytes, and its count of faults stands still at `u64::MAX`.
+/// A sink over a writer of std. It tells no bytes, and its count of faults stands still at
+/// `u64::MAX`.
 ///
 /// The writer has to be one without a buffer: it is never flushed, so bytes that a buffer still holds
 /// would count as written.
@@ -17,6 +18,7 @@ pub struct StdSink<W> {
 }
 
 impl<W: Write> StdSink<W> {
+    /// A sink whose writes are those of `writer`.
     pub fn new(writer: W) -> StdSink<W>
         ensures fresh { result.faults ≡ 0 }
         ensures same { result.writer ≡ writer }

@@ -6,7 +6,8 @@ ghost use Rattle.ygm_io.specs.Faults.{Rose};
 use crate::{Failed, Source};
 use std::io::{ErrorKind, Read};
 
-/// A source over a reader of std. It tells no bytes, and its count of faults stands still at `u64::MAX`.
+/// A source over a reader of std. It tells no bytes, and its count of faults stands still at
+/// `u64::MAX`.
 #[derive(Debug, Drop)]
 pub struct StdSource<R> {
     reader: R,
@@ -14,6 +15,7 @@ pub struct StdSource<R> {
 }
 
 impl<R: Read> StdSource<R> {
+    /// A source whose reads are those of `reader`.
     pub fn new(reader: R) -> StdSource<R>
         ensures fresh { result.faults ≡ 0 }
         ensures same { result.reader ≡ reader }
