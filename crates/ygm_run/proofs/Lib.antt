@@ -1,3 +1,4 @@
+pub mod Carrying
 pub mod Counting
 pub mod Cuts
 pub mod InOrder
@@ -9,3 +10,4 @@ pub mod Table
 pub mod TallyRows
 pub mod Texts
 pub mod Told
+pub mod Worlds

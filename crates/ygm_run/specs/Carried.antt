@@ -1,5 +1,5 @@
 -- The lines of each rank on their way to the ranks that own them.
-use Rattle.std.specs.Prelude.{◌≡◌, ℕ, ◌<◌, ◌≤◌, ◌^◌, ◌==◌, List, [], ◌∷◌, ◌++◌, Some, length, map, filter, slice_get, if◌then◌else◌}
+use Rattle.std.specs.Prelude.{◌≡◌, ℕ, ◌<◌, ◌≤◌, ◌^◌, ◌==◌, List, [], ◌∷◌, ◌++◌, Some, length, map, filter, flat_map, slice_get, if◌then◌else◌}
 use Rattle.std.specs.List.{AllByRecursion}
 use Rattle.msg_codec.specs.declared.letter.Letter.{Letter}
 use Rattle.comm_rank.specs.Fold.{fold_from, letters_from}
@@ -32,3 +32,15 @@ with_line own rank line other = if other == rank then own other ++ line ∷ [] e
 -- no letter waits
 abbrev pub IsQuiet : Links → Type 0
 IsQuiet links = (from to : ℕ) → from < links.ranks → to < links.ranks → waiting links from to ≡ []
+
+-- no letter of a rank waits
+abbrev pub IsQuietFrom : Links → ℕ → Type 0
+IsQuietFrom links from = (to : ℕ) → to < links.ranks → waiting links from to ≡ []
+
+-- each rank keeps nothing and has sent nothing
+abbrev pub AreFresh : List (State Counts) → Type 0
+AreFresh states = AllByRecursion (λ (state : State Counts). (state.contents ≡ []) × (state.sent ≡ 0)) states
+
+-- what all ranks keep, one rank after another
+abbrev pub kept : List (State Counts) → Counts
+kept states = flat_map (λ (state : State Counts). state.contents) states

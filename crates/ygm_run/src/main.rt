@@ -4,5 +4,6 @@
 pub mod line_reader;
 mod pieces;
 pub mod tally_text;
+mod world;
 
 fn main() {}
