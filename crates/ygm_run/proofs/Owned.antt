@@ -39,15 +39,15 @@ adds_of_items [] h = refl
 adds_of_items (l ∷ ls) h = ap (λ o. o ∷ map adds ls) h.0 ∙ ap (λ os. Some (item_of l, 1) ∷ os) (adds_of_items ls h.1)
 
 -- each letter of lines adds one
-one_more : (ranks from to : ℕ) (line : List ℕ) (lines : List (List ℕ)) (b : Bool) → IsShort line → AllByRecursion AddsOne (map (add_letter to from) lines)
+one_more : (from to : ℕ) (line : List ℕ) (lines : List (List ℕ)) (b : Bool) → IsShort line → AllByRecursion AddsOne (map (add_letter to from) lines)
     → AllByRecursion AddsOne (map (add_letter to from) (cond b (line ∷ lines) lines))
-one_more ranks from to line lines true short h = (add_letter-one to from line short, h)
-one_more ranks from to line lines false short h = h
+one_more from to line lines true short h = (add_letter-one to from line short, h)
+one_more from to line lines false short h = h
 
 pub letters_of-one : (ranks from to : ℕ) (lines : List (List ℕ)) → AllByRecursion IsShort lines → AllByRecursion AddsOne (letters_of ranks from to lines)
 letters_of-one ranks from to [] short = tt
 letters_of-one ranks from to (line ∷ lines) short =
-    one_more ranks from to line (filter (λ y. eqb (owner_of_key y ranks) to) lines) (eqb (owner_of_key line ranks) to) short.0 (letters_of-one ranks from to lines short.1)
+    one_more from to line (filter (λ y. eqb (owner_of_key y ranks) to) lines) (eqb (owner_of_key line ranks) to) short.0 (letters_of-one ranks from to lines short.1)
 
 -- there are no more letters than lines
 fewer : (b : Bool) (line : List ℕ) (lines : List (List ℕ)) (most : ℕ) → length lines ≤ most → length (cond b (line ∷ lines) lines) ≤ most + 1
@@ -68,12 +68,12 @@ abbrev pub one_if_adds : List ℕ → Letter → ℕ
 one_if_adds x l = cond (bytes_eq x (item_of l)) 1 0
 
 -- a letter of a line that another rank owns isn't there
-counted_one : (x : List ℕ) (ranks from to : ℕ) (line : List ℕ) (lines : List (List ℕ)) (b : Bool) → IsShort line
+counted_one : (x : List ℕ) (from to : ℕ) (line : List ℕ) (lines : List (List ℕ)) (b : Bool) → IsShort line
     → sum_by (one_if_adds x) (map (add_letter to from) (cond b (line ∷ lines) lines)) ≡ cond b (cond (bytes_eq x line) 1 0) 0 + sum_by (one_if_adds x) (map (add_letter to from) lines)
-counted_one x ranks from to line lines true short =
+counted_one x from to line lines true short =
     sum_by-cons (one_if_adds x) (add_letter to from line) (map (add_letter to from) lines)
     ∙ ap (λ y. cond (bytes_eq x y) 1 0 + sum_by (one_if_adds x) (map (add_letter to from) lines)) (item_of-add_letter to from line short)
-counted_one x ranks from to line lines false short = omega arith
+counted_one x from to line lines false short = omega arith
 
 -- a number where a test is true
 abbrev only_if : Bool → ℕ → ℕ
@@ -102,7 +102,7 @@ counted_in_letters x ranks from to [] short = sym (none (eqb (owner_of_key x ran
 counted_in_letters x ranks from to (line ∷ lines) short =
     let mine = eqb (owner_of_key x ranks) to in
     let one : ℕ = cond (bytes_eq x line) 1 0 in
-    counted_one x ranks from to line (filter (λ y. eqb (owner_of_key y ranks) to) lines) (eqb (owner_of_key line ranks) to) short.0
+    counted_one x from to line (filter (λ y. eqb (owner_of_key y ranks) to) lines) (eqb (owner_of_key line ranks) to) short.0
     ∙ ap (λ n. n + sum_by (one_if_adds x) (letters_of ranks from to lines)) (same_owner x line ranks to)
     ∙ ap (λ n. only_if mine one + n) (counted_in_letters x ranks from to lines short.1)
     ∙ split mine one (times x lines)
