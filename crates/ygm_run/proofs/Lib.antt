@@ -1,4 +1,4 @@
-pub mod Carrying
+pub mod AllCounted
 pub mod Counting
 pub mod Cuts
 pub mod InOrder
