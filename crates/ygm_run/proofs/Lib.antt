@@ -1,10 +1,13 @@
+pub mod AllCounted
 pub mod Carrying
 pub mod Counting
 pub mod Cuts
 pub mod InOrder
 pub mod LineRows
 pub mod Members
+pub mod Owned
 pub mod Parts
+pub mod Senders
 pub mod Shards
 pub mod Table
 pub mod TallyRows
