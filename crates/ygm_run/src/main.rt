@@ -2,7 +2,10 @@
 #![tactic(auto)]
 
 pub mod line_reader;
+pub mod note;
 mod pieces;
+pub mod status;
 pub mod tally_text;
+pub mod words;
 
 fn main() {}
