@@ -1,8 +1,9 @@
 -- What the calls on a world of ranks do, from what the calls on its parts ensure.
-use Rattle.std.proofs.Common.{◌≡◌, ℕ, ◌+◌, ◌<◌, ◌≤◌, ◌^◌, List, [], ◌∷◌, ◌++◌, Some, Result, Ok, Err, OnOk, IsErr, length, map, set, take, drop, get_or, replicate, refl, sym, ap, ◌∙◌, subst, inl, inr, arith, slice_get}
+use Rattle.std.proofs.Common.{◌≡◌, ℕ, ◌+◌, ◌<◌, ◌≤◌, ◌^◌, List, [], ◌∷◌, ◌++◌, Some, Result, Ok, Err, OnOk, IsErr, length, map, set, take, drop, suc, zero, add-one, get_or, replicate, refl, sym, ap, ◌∙◌, subst, inl, inr, arith, slice_get}
 use Rattle.std.specs.Option.{option_map}
-use Rattle.std.proofs.lemmas.Bool.{cases_lt}
-use Rattle.std.proofs.lemmas.List.{append-nil, length-map}
+use Rattle.std.proofs.lemmas.Bool.{cases_lt, false≢true}
+use Rattle.std.proofs.lemmas.List.{append-nil, length-map, map-append}
+use Rattle.std.proofs.lemmas.List.Concat.{flat_map-append}
 use Rattle.std.proofs.lemmas.Option.{slice_get-map, slice_get_read, get_or_from_slice_get}
 use Rattle.std.proofs.Math.Seq.{take-length}
 use Rattle.std.proofs.Math.ListN.{drop_of_length-le}
@@ -14,7 +15,7 @@ use Rattle.comm_rank.specs.Runs.{State, Settled}
 use Rattle.comm_rank.proofs.Worlds.{map-set, slice_get-set_at}
 use Rattle.counting_set.specs.Counting.{Counts, counting_apply, add_letter}
 use Rattle.counting_set.specs.Owner.{owner_of_key}
-use Rattle.ygm_run.specs.Carried.{Carried, with_line, IsQuietFrom}
+use Rattle.ygm_run.specs.Carried.{Carried, with_line, IsQuietFrom, kept}
 use Rattle.ygm_run.proofs.Carrying.{carried_line, carried_runs, caller_quiet, stays_quiet, same_counts}
 
 -- a fact of what was sent, where it was
@@ -33,7 +34,7 @@ inserted (Ok u) n rank comms old now links new line world lt fits is sent counte
         subst (λ i. ChangesLink i (owner_of_key line n) links new (waiting links i (owner_of_key line n) ++ add_letter (owner_of_key line n) i line ∷ [])) who.0
         (subst (λ k. ChangesLink (rank_of old) (owner_of_key line k) links new (waiting links (rank_of old) (owner_of_key line k) ++ add_letter (owner_of_key line k) (rank_of old) line ∷ [])) who.1 sent) in
     let state_at : slice_get (states_of comms) rank ≡ Some (state_of old) = slice_get-map state_of comms rank ∙ ap (option_map state_of) at in
-    let room : sent_count_of old < 2 ^ 56 = elim (cases_lt (sent_count_of old) (2 ^ 56)) [ inl below ↦ below | inr above ↦ absurd (full above) ] in
+    let room : sent_count_of old < 2 ^ 56 = elim (cases_lt (sent_count_of old) (2 ^ 56)) [ inl below ↦ below | inr above ↦ absurd (false≢true (full above)) ] in
     subst (λ ss. Carried (with_line own rank line) n ss new) (sym (map-set state_of comms rank now))
     (carried_line own n rank (states_of comms) links new line (state_of old) (state_of now) c lt state_at ch same counted (omega (arith, counted, room)) fits)
 
@@ -56,7 +57,7 @@ pub insert_bound : (r : Result (Unit {0}) CommFault) (n rank : ℕ) (comms : Lis
     → OnOk r (get_or (map sent_count_of (set comms rank now)) rank 0 ≤ 2 ^ 56)
 insert_bound (Err e) n rank comms old now world lt counted full = tt
 insert_bound (Ok u) n rank comms old now world lt counted full =
-    let room : sent_count_of old < 2 ^ 56 = elim (cases_lt (sent_count_of old) (2 ^ 56)) [ inl below ↦ below | inr above ↦ absurd (full above) ] in
+    let room : sent_count_of old < 2 ^ 56 = elim (cases_lt (sent_count_of old) (2 ^ 56)) [ inl below ↦ below | inr above ↦ absurd (false≢true (full above)) ] in
     omega (arith, count_after n rank comms now world lt, counted, room)
 
 -- a whole slice of a vector was written
@@ -88,3 +89,18 @@ settle_counted (Ok u) caller before after old new s = counts after ∙ same_coun
   counts : (xs : List (Comm Counts)) → map sent_count_of xs ≡ map (λ (s : State Counts). s.sent) (states_of xs)
   counts [] = refl
   counts (x ∷ xs) = ap (λ w. sent_count_of x ∷ w) (counts xs)
+
+pub take_next : {X : Type 0} (xs : List X) (k : ℕ) (x : X) → slice_get xs k ≡ Some x → take (k + 1) xs ≡ take k xs ++ x ∷ []
+take_next {X} xs k x e = ap (λ i. take i xs) (add-one k) ∙ go xs k e where
+  go : (ys : List X) (i : ℕ) → slice_get ys i ≡ Some x → take (suc i) ys ≡ take i ys ++ x ∷ []
+  go [] i e = cc
+  go (y ∷ ys) zero e = let same : y ≡ x = cc in ap (λ z. z ∷ []) same
+  go (y ∷ ys) (suc i) e = ap (λ w. y ∷ w) (go ys i e)
+
+-- one rank's entries more
+pub kept_next : (comms : List (Comm Counts)) (k : ℕ) (comm : Comm Counts) → slice_get comms k ≡ Some comm → kept (states_of (take (k + 1) comms)) ≡ kept (states_of (take k comms)) ++ contents_of comm
+kept_next comms k comm e =
+    ap (λ (w : List (Comm Counts)). kept (states_of w)) (take_next comms k comm e)
+    ∙ ap kept (map-append state_of (take k comms) (comm ∷ []))
+    ∙ flat_map-append (λ (s : State Counts). s.contents) (states_of (take k comms)) (state_of comm ∷ [])
+    ∙ ap (λ w. kept (states_of (take k comms)) ++ w) (append-nil (contents_of comm))

@@ -1,6 +1,9 @@
 pub mod Carried
+pub mod Fed
 pub mod Lines
+pub mod Notes
 pub mod Pieces
 pub mod Reading
 pub mod Tally
 pub mod Turns
+pub mod Words
