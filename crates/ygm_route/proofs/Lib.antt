@@ -1,0 +1,5 @@
+pub mod Places
+pub mod Hops
+pub mod Ways
+pub mod Paths
+pub mod Lengths
