@@ -44,7 +44,10 @@ most_links_nlnr Direct e = cc
 most_links_nlnr Nr e = cc
 most_links_nlnr Nlnr e = lit≤ tt
 
-module _ (layout : Shape) (s d : ℕ) (ranks : AreRanks layout s d) where
+module _ (layout : Shape) (s d : ℕ) (laid_out : IsLayout layout) (s_within : s < layout.ranks) (d_within : d < layout.ranks) where
+  ranks : AreRanks layout s d
+  ranks = record { laid_out = laid_out; from_within = s_within; to_within = d_within }
+
   pub link_count_near : (scheme : Scheme) → node layout s ≡ node layout d → link_count layout scheme s d ≡ 1
   link_count_near scheme near = ap (λ xs. length (links xs)) (path-near layout scheme s d ranks (hop-near layout s d scheme near))
 
@@ -62,19 +65,30 @@ module _ (layout : Shape) (s d : ℕ) (ranks : AreRanks layout s d) where
   -- a link for entering the network where the sender is no gateway, and one for leaving it where the destination is none
   pub link_count_nlnr : node layout s ≢ node layout d → link_count layout Nlnr s d ≡ one_if_other (core layout s) (gateway layout s d) + 1 + one_if_other (core layout d) (gateway layout s d)
   link_count_nlnr far = elim (cases_eq (core layout s) (gateway layout s d)) [
-        inl out ↦ elim (cases_eq (core layout d) (gateway layout s d)) [
-          inl into ↦ ap (λ xs. length (links xs)) (path-near layout Nlnr s d ranks (hop-nlnr_out layout s d far out ∙ ap (λ x. rank_at layout (node layout d) x) (sym into) ∙ rank_at-node-core layout d)) ∙ sym (ap (λ n. n + 1 + one_if_other (core layout d) (gateway layout s d)) (one_if_other-same _ _ out) ∙ ap (λ n. 0 + 1 + n) (one_if_other-same _ _ into))
-        | inr over ↦ ap (λ xs. length (links xs)) (path-one layout Nlnr s d ranks _ (way_out layout s d ranks far out over)) ∙ sym (ap (λ n. n + 1 + one_if_other (core layout d) (gateway layout s d)) (one_if_other-same _ _ out) ∙ ap (λ n. 0 + 1 + n) (one_if_other-other _ _ over))
-        ]
-      | inr inside ↦ elim (cases_eq (core layout d) (gateway layout s d)) [
-          inl into ↦ ap (λ xs. length (links xs)) (path-one layout Nlnr s d ranks _ (way_in layout s d ranks far inside into)) ∙ sym (ap (λ n. n + 1 + one_if_other (core layout d) (gateway layout s d)) (one_if_other-other _ _ inside) ∙ ap (λ n. 1 + 1 + n) (one_if_other-same _ _ into))
-        | inr over ↦ ap (λ xs. length (links xs)) (path-two layout Nlnr s d ranks _ _ (way_over layout s d ranks far inside over)) ∙ sym (ap (λ n. n + 1 + one_if_other (core layout d) (gateway layout s d)) (one_if_other-other _ _ inside) ∙ ap (λ n. 1 + 1 + n) (one_if_other-other _ _ over))
-        ]
-      ]
+    | inl out ↦ elim (cases_eq (core layout d) (gateway layout s d)) [
+      | inl into ↦ ap (λ xs. length (links xs)) (path-near layout Nlnr s d ranks (hop-nlnr_out layout s d far out ∙ ap (λ x. rank_at layout (node layout d) x) (sym into) ∙ rank_at-node-core layout d)) ∙ sym (ap (λ n. n + 1 + one_if_other (core layout d) (gateway layout s d)) (one_if_other-same _ _ out) ∙ ap (λ n. 0 + 1 + n) (one_if_other-same _ _ into))
+      | inr over ↦ ap (λ xs. length (links xs)) (path-one layout Nlnr s d ranks _ (way_out layout s d ranks far out over)) ∙ sym (ap (λ n. n + 1 + one_if_other (core layout d) (gateway layout s d)) (one_if_other-same _ _ out) ∙ ap (λ n. 0 + 1 + n) (one_if_other-other _ _ over))
+    ]
+    | inr inside ↦ elim (cases_eq (core layout d) (gateway layout s d)) [
+      | inl into ↦ ap (λ xs. length (links xs)) (path-one layout Nlnr s d ranks _ (way_in layout s d ranks far inside into)) ∙ sym (ap (λ n. n + 1 + one_if_other (core layout d) (gateway layout s d)) (one_if_other-other _ _ inside) ∙ ap (λ n. 1 + 1 + n) (one_if_other-same _ _ into))
+      | inr over ↦ ap (λ xs. length (links xs)) (path-two layout Nlnr s d ranks _ _ (way_over layout s d ranks far inside over)) ∙ sym (ap (λ n. n + 1 + one_if_other (core layout d) (gateway layout s d)) (one_if_other-other _ _ inside) ∙ ap (λ n. 1 + 1 + n) (one_if_other-other _ _ over))
+    ]
+  ]
 
   pub link_count_few : (scheme : Scheme) → link_count layout scheme s d ≤ most_links scheme
   link_count_few scheme = elim (way layout s d ranks scheme) [
-        at_once e ↦ rw (path-near layout scheme s d ranks e) (some_links scheme)
-      | over_one m remote over ↦ rw (path-one layout scheme s d ranks m over) (more_links scheme remote)
-      | over_two m k e over ↦ rw (path-two layout scheme s d ranks m k over) (most_links_nlnr scheme e)
-      ]
+    | at_once e ↦ rw (path-near layout scheme s d ranks e) (some_links scheme)
+    | over_one m remote over ↦ rw (path-one layout scheme s d ranks m over) (more_links scheme remote)
+    | over_two m k e over ↦ rw (path-two layout scheme s d ranks m k over) (most_links_nlnr scheme e)
+  ]
+
+  -- a path has one rank more than it has links
+  pub path_short : (scheme : Scheme) → length (path layout scheme s d) ≤ most_links scheme + 1
+  path_short scheme = elim (way layout s d ranks scheme) [
+    | at_once e ↦ rw (path-near layout scheme s d ranks e) (omega (arith, some_links scheme))
+    | over_one m remote over ↦ rw (path-one layout scheme s d ranks m over) (omega (arith, more_links scheme remote))
+    | over_two m k e over ↦ rw (path-two layout scheme s d ranks m k over) (omega (arith, most_links_nlnr scheme e))
+  ]
+
+-- for each case of the code
+pub ruleset link_counts = (link_count_near, link_count_direct, link_count_nr_same, link_count_nr_other, link_count_nlnr)

@@ -135,26 +135,26 @@ module _ (layout : Shape) (s d : ℕ) (ranks : AreRanks layout s d) where
 
   way_nlnr : node layout s ≢ node layout d → Way layout Nlnr s d
   way_nlnr far = elim (cases_eq (core layout s) (gateway layout s d)) [
-        inl out ↦ elim (cases_eq (core layout d) (gateway layout s d)) [
-          inl into ↦ at_once (hop-nlnr_out layout s d far out ∙ ap (λ x. rank_at layout (node layout d) x) (sym into) ∙ rank_at-node-core layout d)
-        | inr over ↦ over_one _ (λ e. cc) (way_out far out over)
-        ]
-      | inr inside ↦ elim (cases_eq (core layout d) (gateway layout s d)) [
-          inl into ↦ over_one _ (λ e. cc) (way_in far inside into)
-        | inr over ↦ over_two _ _ refl (way_over far inside over)
-        ]
-      ]
+    | inl out ↦ elim (cases_eq (core layout d) (gateway layout s d)) [
+      | inl into ↦ at_once (hop-nlnr_out layout s d far out ∙ ap (λ x. rank_at layout (node layout d) x) (sym into) ∙ rank_at-node-core layout d)
+      | inr over ↦ over_one _ (λ e. cc) (way_out far out over)
+    ]
+    | inr inside ↦ elim (cases_eq (core layout d) (gateway layout s d)) [
+      | inl into ↦ over_one _ (λ e. cc) (way_in far inside into)
+      | inr over ↦ over_two _ _ refl (way_over far inside over)
+    ]
+  ]
 
   way_far : (scheme : Scheme) → node layout s ≢ node layout d → Way layout scheme s d
   way_far Direct far = at_once (hop-direct layout s d)
   way_far Nr far = elim (cases_eq (core layout s) (core layout d)) [
-        inl same ↦ at_once (hop-nr layout s d far ∙ ap (λ x. rank_at layout (node layout d) x) same ∙ rank_at-node-core layout d)
-      | inr over ↦ over_one _ (λ e. cc) (way_nr far over)
-      ]
+    | inl same ↦ at_once (hop-nr layout s d far ∙ ap (λ x. rank_at layout (node layout d) x) same ∙ rank_at-node-core layout d)
+    | inr over ↦ over_one _ (λ e. cc) (way_nr far over)
+  ]
   way_far Nlnr far = way_nlnr far
 
   pub way : (scheme : Scheme) → Way layout scheme s d
   way scheme = elim (cases_eq (node layout s) (node layout d)) [
-        inl near ↦ at_once (hop-near layout s d scheme near)
-      | inr far ↦ way_far scheme far
-      ]
+    | inl near ↦ at_once (hop-near layout s d scheme near)
+    | inr far ↦ way_far scheme far
+  ]

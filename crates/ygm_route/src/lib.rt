@@ -1,6 +1,7 @@
 //! Ranks on nodes and cores, and the paths that messages take between them.
 #![tactic(auto)]
 
+pub mod laws;
 mod layout;
 mod route;
 mod scheme;

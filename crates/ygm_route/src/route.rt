@@ -5,8 +5,8 @@ ghost use Rattle.ygm_route.specs.Path.{links, most_links, path};
 
 use crate::{Layout, Scheme};
 
-#[tactic(auto, unfolding(crate::specs::Hop::hop))]
 /// The rank that `here` sends a message for `to` to.
+#[tactic(auto, unfolding(crate::specs::Hop::hop))]
 pub fn next_hop(layout: &Layout, scheme: Scheme, here: u32, to: u32) -> u32
     requires here_within { here < layout.now.ranks }
     requires to_within { to < layout.now.ranks }
@@ -33,6 +33,7 @@ pub fn next_hop(layout: &Layout, scheme: Scheme, here: u32, to: u32) -> u32
 }
 
 /// The number of links that a message from `here` to `to` crosses. It is 1 for a message to oneself.
+#[tactic(auto, using(crate::proofs::Lengths::link_counts))]
 pub fn hops_to(layout: &Layout, scheme: Scheme, here: u32, to: u32) -> u32
     requires here_within { here < layout.now.ranks }
     requires to_within { to < layout.now.ranks }
