@@ -12,3 +12,6 @@ pub use scheme::Scheme;
 
 /// The most ranks that a layout may have.
 pub const MAX_RANKS: u32 = 32;
+
+#[cfg(test)]
+mod tests;
