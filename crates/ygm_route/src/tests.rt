@@ -6,33 +6,53 @@ use std::test::Fail;
 #[test]
 fn layouts_and_their_faults(rt: HostRuntime) -> Result<(), Fail> {
     let layout = Layout::new(32, 8)?;
-    assert_eq!(rt; layout.ranks(), 32);
-    assert_eq!(rt; layout.cores(), 8);
-    assert_eq!(rt; layout.node_of(29), 3);
-    assert_eq!(rt; layout.core_of(29), 5);
-    assert_eq!(rt; Layout::new(0, 0), Err(LayoutFault::NoRanks));
-    assert_eq!(rt; Layout::new(33, 0), Err(LayoutFault::TooManyRanks));
-    assert_eq!(rt; Layout::new(8, 0), Err(LayoutFault::NoCores));
-    assert_eq!(rt; Layout::new(6, 4), Err(LayoutFault::Uneven));
-    assert_eq!(rt; Layout::new(4, 6), Err(LayoutFault::Uneven));
+    assert_eq!(rt; (layout.ranks(), layout.cores()), (32, 8));
+    assert_eq!(rt; (layout.node_of(29), layout.core_of(29)), (3, 5));
+    let refused = [
+        (0, 0, LayoutFault::NoRanks),
+        (33, 0, LayoutFault::TooManyRanks),
+        (8, 0, LayoutFault::NoCores),
+        (6, 4, LayoutFault::Uneven),
+        (4, 6, LayoutFault::Uneven),
+    ];
+    for (ranks, cores, fault) in refused {
+        assert_eq!(rt;
+            Layout::new(ranks, cores),
+            Err(fault),
+            "{ranks} ranks, {cores} cores"
+        );
+    }
     Ok(())
 }
 
 #[test]
 fn worked_paths_over_two_nodes(rt: HostRuntime) -> Result<(), Fail> {
     let layout = Layout::new(8, 4)?;
-    assert_eq!(rt; next_hop(&layout, Scheme::Nr, 1, 6), 5);
-    assert_eq!(rt; next_hop(&layout, Scheme::Nr, 5, 6), 6);
-    assert_eq!(rt; hops_to(&layout, Scheme::Nr, 1, 6), 2);
-    assert_eq!(rt; next_hop(&layout, Scheme::Nlnr, 0, 6), 1);
-    assert_eq!(rt; next_hop(&layout, Scheme::Nlnr, 1, 6), 5);
-    assert_eq!(rt; next_hop(&layout, Scheme::Nlnr, 5, 6), 6);
-    assert_eq!(rt; hops_to(&layout, Scheme::Nlnr, 0, 6), 3);
-    assert_eq!(rt; next_hop(&layout, Scheme::Nlnr, 1, 5), 5);
-    assert_eq!(rt; hops_to(&layout, Scheme::Nlnr, 1, 5), 1);
-    for scheme in [Scheme::Direct, Scheme::Nr, Scheme::Nlnr] {
-        assert_eq!(rt; next_hop(&layout, scheme, 3, 3), 3);
-        assert_eq!(rt; hops_to(&layout, scheme, 3, 3), 1);
+
+    // each rank of a path with its next hop and the links that are left
+    let hops = [
+        (Scheme::Nr, 1, 6, 5, 2),
+        (Scheme::Nr, 5, 6, 6, 1),
+        (Scheme::Nlnr, 0, 6, 1, 3),
+        (Scheme::Nlnr, 1, 6, 5, 2),
+        (Scheme::Nlnr, 5, 6, 6, 1),
+        (Scheme::Nlnr, 1, 5, 5, 1),
+        (Scheme::Direct, 3, 3, 3, 1),
+        (Scheme::Nr, 3, 3, 3, 1),
+        (Scheme::Nlnr, 3, 3, 3, 1),
+    ];
+    for (scheme, here, to, hop, links) in hops {
+        assert!(rt; here < 8 && to < 8);
+        assert_eq!(rt;
+            next_hop(&layout, scheme, here, to),
+            hop,
+            "from {here} to {to}"
+        );
+        assert_eq!(rt;
+            hops_to(&layout, scheme, here, to),
+            links,
+            "from {here} to {to}"
+        );
     }
     Ok(())
 }
