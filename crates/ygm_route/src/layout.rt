@@ -9,11 +9,13 @@ use thiserror::Error;
 /// Why two numbers make no layout.
 #[derive(Clone, Copy, Debug, PartialEq, Eq, Error)]
 pub enum LayoutFault {
+    /// The number of ranks is 0.
     #[error("there are no ranks")]
     NoRanks,
     /// There are more ranks than `MAX_RANKS`.
     #[error("there are too many ranks")]
     TooManyRanks,
+    /// The number of cores is 0.
     #[error("there are no cores")]
     NoCores,
     /// The number of cores doesn't divide the number of ranks.
