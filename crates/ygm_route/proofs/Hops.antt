@@ -1,9 +1,9 @@
 -- The next hop, case by case.
-use Rattle.std.proofs.Common.{◌≡◌, ◌≢◌, ℕ, ◌+◌, ◌*◌, ◌/◌, ◌%◌, ◌<◌, ◌≤◌, ap, sym, ◌∙◌, arith, nat_eq}
+use Rattle.std.proofs.Common.{◌≡◌, ◌≢◌, ℕ, arith}
 use Rattle.std.proofs.lemmas.Bool.Decides.{nat_tests}
 use Rattle.ygm_route.specs.declared.scheme.Scheme.{Scheme}
 use Rattle.ygm_route.specs.declared.scheme.Scheme.TheVariants.{Direct, Nr, Nlnr}
-use Rattle.ygm_route.specs.Layout.{Shape, IsLayout, node, core, rank_at}
+use Rattle.ygm_route.specs.Layout.{Shape, node, core, rank_at}
 use Rattle.ygm_route.specs.Hop.{hop, gateway}
 
 module _ (layout : Shape) (here to : ℕ) where

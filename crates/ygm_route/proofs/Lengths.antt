@@ -6,11 +6,11 @@ use Rattle.std.specs.Int.{from_bool}
 use Rattle.ygm_route.specs.declared.scheme.Scheme.{Scheme}
 use Rattle.ygm_route.specs.declared.scheme.Scheme.TheVariants.{Direct, Nr, Nlnr}
 use Rattle.ygm_route.specs.Layout.{Shape, IsLayout, AreRanks, node, core, rank_at}
-use Rattle.ygm_route.specs.Hop.{hop, gateway}
+use Rattle.ygm_route.specs.Hop.{gateway}
 use Rattle.ygm_route.specs.Path.{path, links, most_links}
 use Rattle.ygm_route.proofs.Places.{rank_at-node-core}
-use Rattle.ygm_route.proofs.Hops.{hop-near, hop-direct, hop-nr, hop-nlnr_out, hop-nlnr_in}
-use Rattle.ygm_route.proofs.Ways.{Way, at_once, over_one, over_two, way, way_nr, way_out, way_in, way_over}
+use Rattle.ygm_route.proofs.Hops.{hop-near, hop-direct, hop-nr, hop-nlnr_out}
+use Rattle.ygm_route.proofs.Ways.{at_once, over_one, over_two, way, way_nr, way_out, way_in, way_over}
 use Rattle.ygm_route.proofs.Paths.{path-near, path-one, path-two}
 
 -- 1 where two numbers differ

@@ -1,12 +1,12 @@
 -- The path is the one list of ranks that its rules allow.
-use Rattle.std.proofs.Common.{◌≡◌, ◌≢◌, ◌↔◌, ℕ, ◌<◌, Bool, true, false, nat_eq, eq-eqb, List, [], ◌∷◌, ◌++◌, ap, sym, ◌∙◌, refl, subst, inl, inr}
+use Rattle.std.proofs.Common.{◌≡◌, ◌≢◌, ℕ, ◌<◌, Bool, true, false, nat_eq, eq-eqb, List, [], ◌∷◌, ◌++◌, ap, sym, ◌∙◌, refl, subst, inl, inr}
 use Rattle.std.specs.Bool.{IsTrue}
 use Rattle.std.specs.List.{IsDistinct, AllByRecursion}
 use Rattle.ygm_route.specs.declared.scheme.Scheme.{Scheme}
 use Rattle.ygm_route.specs.Layout.{Shape, AreRanks}
 use Rattle.ygm_route.specs.Hop.{hop}
 use Rattle.ygm_route.specs.Path.{path, passes, crosses, IsPath}
-use Rattle.ygm_route.proofs.Ways.{Way, OverOne, OverTwo, at_once, over_one, over_two, way}
+use Rattle.ygm_route.proofs.Ways.{at_once, over_one, over_two, way}
 use Rattle.ygm_route.proofs.Paths.{path-near, path-one, path-two}
 use Rattle.ygm_route.proofs.Lists.{passes-cons, passes_first, passes_later, crosses_first, crosses_later}
 use Rattle.ygm_route.proofs.PathLaws.{towards, hop_within, path_arrives, path_goes_on, crosses_next_hops, path_distinct}

@@ -1,20 +1,19 @@
 -- The laws of paths, for each way that a path can go.
-use Rattle.std.proofs.Common.{◌≡◌, ◌≢◌, ◌↔◌, ℕ, ◌+◌, ◌<◌, ◌≤◌, Bool, true, false, nat_eq, eq-eqb, List, [], ◌∷◌, ◌++◌, length, ap, sym, ◌∙◌, refl, arith, subst, get_or, length-append}
+use Rattle.std.proofs.Common.{◌≡◌, ◌≢◌, ℕ, ◌<◌, false, nat_eq, List, [], ◌∷◌, ◌++◌, length, ap, sym, ◌∙◌, refl, arith, subst, get_or, length-append}
 use Rattle.std.proofs.Math.Seq.{get_or-append_seam}
 use Rattle.std.proofs.lemmas.List.{append-nil}
 use Rattle.std.specs.Bool.{IsTrue}
 use Rattle.std.specs.List.{IsDistinct}
-use Rattle.std.proofs.lemmas.Bool.{cases_eq}
 use Rattle.std.proofs.lemmas.Bool.Decides.{nat_tests}
 use Rattle.ygm_route.specs.declared.scheme.Scheme.{Scheme}
-use Rattle.ygm_route.specs.Layout.{Shape, IsLayout, AreRanks, node}
+use Rattle.ygm_route.specs.Layout.{Shape, AreRanks, node}
 use Rattle.ygm_route.specs.Hop.{hop}
-use Rattle.ygm_route.specs.Path.{path, passes, crosses, links, most_links, IsPath, StartsWith, EndsWith}
+use Rattle.ygm_route.specs.Path.{path, passes, crosses, StartsWith, EndsWith}
 use Rattle.ygm_route.proofs.Lists.{crosses_first, crosses_later, passes_first, passes_later}
 use Rattle.ygm_route.proofs.Hops.{hop-near}
-use Rattle.ygm_route.proofs.Ways.{Way, OverOne, OverTwo, at_once, over_one, over_two, way}
+use Rattle.ygm_route.proofs.Ways.{at_once, over_one, over_two, way}
 use Rattle.ygm_route.proofs.Paths.{path-near, path-one, path-two, path-two_begin, path-two_rest}
-use Rattle.ygm_route.proofs.Standing.{Standing, is_sender, is_destination, is_between, is_first, is_second, standing, Crossing, is_whole, into_one, out_of_one, into_first, first_to_second, out_of_second, crossing}
+use Rattle.ygm_route.proofs.Standing.{is_sender, is_destination, is_between, is_first, is_second, standing, is_whole, into_one, out_of_one, into_first, first_to_second, out_of_second, crossing}
 
 -- the last rank but one
 same_ends : (xs ys : List ℕ) (a a' b : ℕ) → xs ++ a ∷ b ∷ [] ≡ ys ++ a' ∷ b ∷ [] → a ≡ a'
@@ -160,6 +159,60 @@ module _ (layout : Shape) (scheme : Scheme) where
     | is_between over ↦ rw (path-one layout scheme s d ranks a over) (crosses_later s a (d ∷ []) a (hop layout scheme a d) (crosses_first a d [] a (hop layout scheme a d) refl (sym over.second)))
     | is_first k over ↦ rw (path-two layout scheme s d ranks a k over) (crosses_later s a (k ∷ d ∷ []) a (hop layout scheme a d) (crosses_first a k (d ∷ []) a (hop layout scheme a d) refl (sym over.second)))
     | is_second m over ↦ rw (path-two layout scheme s d ranks m a over) (crosses_later s m (a ∷ d ∷ []) a (hop layout scheme a d) (crosses_later m a (d ∷ []) a (hop layout scheme a d) (crosses_first a d [] a (hop layout scheme a d) refl (sym over.third))))
+  ]
+
+  -- a link starts on the path
+  pub link_start : (s d a b : ℕ) → AreRanks layout s d → IsTrue (crosses (path layout scheme s d) a b) → IsTrue (passes (path layout scheme s d) a)
+  link_start s d a b ranks h = elim (crossing layout scheme s d ranks a b h) [
+    | is_whole e f g ↦ rw (path-near layout scheme s d ranks e) (passes_first s (d ∷ []) a f)
+    | into_one f over ↦ rw (path-one layout scheme s d ranks b over) (passes_first s (b ∷ d ∷ []) a f)
+    | out_of_one over g ↦ rw (path-one layout scheme s d ranks a over) (passes_later s (a ∷ d ∷ []) a (passes_first a (d ∷ []) a refl))
+    | into_first k f over ↦ rw (path-two layout scheme s d ranks b k over) (passes_first s (b ∷ k ∷ d ∷ []) a f)
+    | first_to_second over ↦ rw (path-two layout scheme s d ranks a b over) (passes_later s (a ∷ b ∷ d ∷ []) a (passes_first a (b ∷ d ∷ []) a refl))
+    | out_of_second m over g ↦ rw (path-two layout scheme s d ranks m a over) (passes_later s (m ∷ a ∷ d ∷ []) a (passes_later m (a ∷ d ∷ []) a (passes_first a (d ∷ []) a refl)))
+  ]
+
+  -- a link ends on the path
+  pub link_end : (s d a b : ℕ) → AreRanks layout s d → IsTrue (crosses (path layout scheme s d) a b) → IsTrue (passes (path layout scheme s d) b)
+  link_end s d a b ranks h = elim (crossing layout scheme s d ranks a b h) [
+    | is_whole e f g ↦ rw (path-near layout scheme s d ranks e) (passes_later s (d ∷ []) b (passes_first d [] b g))
+    | into_one f over ↦ rw (path-one layout scheme s d ranks b over) (passes_later s (b ∷ d ∷ []) b (passes_first b (d ∷ []) b refl))
+    | out_of_one over g ↦ rw (path-one layout scheme s d ranks a over) (passes_later s (a ∷ d ∷ []) b (passes_later a (d ∷ []) b (passes_first d [] b g)))
+    | into_first k f over ↦ rw (path-two layout scheme s d ranks b k over) (passes_later s (b ∷ k ∷ d ∷ []) b (passes_first b (k ∷ d ∷ []) b refl))
+    | first_to_second over ↦ rw (path-two layout scheme s d ranks a b over) (passes_later s (a ∷ b ∷ d ∷ []) b (passes_later a (b ∷ d ∷ []) b (passes_first b (d ∷ []) b refl)))
+    | out_of_second m over g ↦ rw (path-two layout scheme s d ranks m a over) (passes_later s (m ∷ a ∷ d ∷ []) b (passes_later m (a ∷ d ∷ []) b (passes_later a (d ∷ []) b (passes_first d [] b g))))
+  ]
+
+  -- a link leads into each rank of a path but the sender
+  pub link_into : (s d b : ℕ) → AreRanks layout s d → IsTrue (passes (path layout scheme s d) b) → b ≢ s → (a : ℕ) × IsTrue (crosses (path layout scheme s d) a b)
+  link_into s d b ranks h on = elim (standing layout scheme s d ranks b h) [
+    | is_sender e ↦ absurd (on (sym e))
+    | is_destination e ↦ subst (λ x. (a : ℕ) × IsTrue (crosses (path layout scheme s d) a x)) e (some_parent s d ranks)
+    | is_between over ↦ (s, rw (path-one layout scheme s d ranks b over) (crosses_first s b (d ∷ []) s b refl refl))
+    | is_first k over ↦ (s, rw (path-two layout scheme s d ranks b k over) (crosses_first s b (k ∷ d ∷ []) s b refl refl))
+    | is_second m over ↦ (m, rw (path-two layout scheme s d ranks m b over) (crosses_later s m (b ∷ d ∷ []) m b (crosses_first m b (d ∷ []) m b refl refl)))
+  ]
+
+  -- the path to a rank is the path to the rank before it, with the link from there
+  pub path_by_parent : (s d a b : ℕ) → AreRanks layout s d → IsTrue (crosses (path layout scheme s d) a b) → a ≢ s → path layout scheme s b ≡ path layout scheme s a ++ b ∷ []
+  path_by_parent s d a b ranks h on = elim (crossing layout scheme s d ranks a b h) [
+    | is_whole e f g ↦ absurd (on (sym f))
+    | into_one f over ↦ absurd (on (sym f))
+    | out_of_one over g ↦ ap (λ x. path layout scheme s x) (sym g) ∙ path-one layout scheme s d ranks a over ∙ ap (λ x. s ∷ a ∷ x ∷ []) g ∙ ap (λ xs. xs ++ b ∷ []) (sym (path-near layout scheme s a (onto s d a ranks over.m_within) over.early))
+    | into_first k f over ↦ absurd (on (sym f))
+    | first_to_second over ↦ path-two_begin layout scheme s d ranks a b over ∙ ap (λ xs. xs ++ b ∷ []) (sym (path-near layout scheme s a (onto s d a ranks over.m_within) over.early))
+    | out_of_second m over g ↦ ap (λ x. path layout scheme s x) (sym g) ∙ path-two layout scheme s d ranks m a over ∙ ap (λ x. s ∷ m ∷ a ∷ x ∷ []) g ∙ ap (λ xs. xs ++ b ∷ []) (sym (path-two_begin layout scheme s d ranks m a over))
+  ]
+
+  -- the path to the first rank of a path is the link to it
+  pub path_from_root : (s d b : ℕ) → AreRanks layout s d → IsTrue (crosses (path layout scheme s d) s b) → path layout scheme s b ≡ s ∷ b ∷ []
+  path_from_root s d b ranks h = elim (crossing layout scheme s d ranks s b h) [
+    | is_whole e f g ↦ ap (λ x. path layout scheme s x) (sym g) ∙ path-near layout scheme s d ranks e ∙ ap (λ x. s ∷ x ∷ []) g
+    | into_one f over ↦ path-near layout scheme s b (onto s d b ranks over.m_within) over.early
+    | out_of_one over g ↦ absurd (over.s_m refl)
+    | into_first k f over ↦ path-near layout scheme s b (onto s d b ranks over.m_within) over.early
+    | first_to_second over ↦ absurd (over.s_m refl)
+    | out_of_second m over g ↦ absurd (over.s_k refl)
   ]
 
   -- a path to another rank repeats no rank

@@ -1,12 +1,11 @@
 -- The path, computed for each way that it can go.
-use Rattle.std.proofs.Common.{◌≡◌, ◌≢◌, ℕ, ◌+◌, ◌<◌, ◌≤◌, zero, suc, nat_eq, true, false, cond, List, [], ◌∷◌, ◌++◌, ap, sym, ◌∙◌, refl, arith, subst, inl, inr}
+use Rattle.std.proofs.Common.{◌≡◌, ◌≢◌, ℕ, ◌≤◌, zero, suc, nat_eq, true, false, cond, [], ◌∷◌, ap, ◌∙◌, arith}
 use Rattle.std.proofs.lemmas.Bool.Decides.{nat_tests}
 use Rattle.ygm_route.specs.declared.scheme.Scheme.{Scheme}
-use Rattle.ygm_route.specs.declared.scheme.Scheme.TheVariants.{Direct, Nr, Nlnr}
-use Rattle.ygm_route.specs.Layout.{Shape, IsLayout, AreRanks, node}
+use Rattle.ygm_route.specs.Layout.{Shape, AreRanks}
 use Rattle.ygm_route.specs.Hop.{hop}
 use Rattle.ygm_route.specs.Path.{path, stops}
-use Rattle.ygm_route.proofs.Ways.{Way, OverOne, OverTwo, at_once, over_one, over_two, way}
+use Rattle.ygm_route.proofs.Ways.{OverOne, OverTwo}
 
 module _ (layout : Shape) (scheme : Scheme) where
   stops-arrives : (most here to : ℕ) → hop layout scheme here to ≡ to → stops layout scheme (suc most) here to ≡ to ∷ []

@@ -1,12 +1,12 @@
 -- The ways that a path can go: at once, over one rank, or over two.
-use Rattle.std.proofs.Common.{◌≡◌, ◌≢◌, ℕ, ◌+◌, ◌*◌, ◌/◌, ◌%◌, ◌<◌, ◌≤◌, ap, sym, ◌∙◌, refl, inl, inr}
+use Rattle.std.proofs.Common.{◌≡◌, ◌≢◌, ℕ, ◌+◌, ◌%◌, ◌<◌, ap, sym, ◌∙◌, refl, inl, inr}
 use Rattle.std.proofs.lemmas.Bool.{cases_eq}
 use Rattle.std.proofs.lemmas.Nat.{mod_below}
 use Rattle.ygm_route.specs.declared.scheme.Scheme.{Scheme}
 use Rattle.ygm_route.specs.declared.scheme.Scheme.TheVariants.{Direct, Nr, Nlnr}
-use Rattle.ygm_route.specs.Layout.{Shape, IsLayout, AreRanks, node, core, rank_at}
+use Rattle.ygm_route.specs.Layout.{Shape, AreRanks, node, core, rank_at}
 use Rattle.ygm_route.specs.Hop.{hop, gateway}
-use Rattle.ygm_route.proofs.Places.{node-rank_at, core-rank_at, rank_at-node-core, same_rank, apart_by_node, apart_by_core, core_within, rank_at_within}
+use Rattle.ygm_route.proofs.Places.{node-rank_at, core-rank_at, rank_at-node-core, apart_by_node, apart_by_core, core_within, rank_at_within}
 use Rattle.ygm_route.proofs.Hops.{hop-near, hop-direct, hop-nr, hop-nlnr_out, hop-nlnr_in}
 
 -- the path goes over the rank m alone
