@@ -92,3 +92,5 @@ module _ (layout : Shape) (s d : ℕ) (laid_out : IsLayout layout) (s_within : s
 
 -- for each case of the code
 pub ruleset link_counts = (link_count_near, link_count_direct, link_count_nr_same, link_count_nr_other, link_count_nlnr)
+
+pub ruleset short_paths = (link_count_few, path_short)

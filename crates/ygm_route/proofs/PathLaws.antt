@@ -230,3 +230,16 @@ module _ (layout : Shape) (scheme : Scheme) where
   -- a path within a node is one link
   pub path_within_node : (s d : ℕ) → AreRanks layout s d → node layout s ≡ node layout d → path layout scheme s d ≡ s ∷ d ∷ []
   path_within_node s d ranks same = path-near layout scheme s d ranks (hop-near layout s d scheme same)
+
+-- the laws, as the public functions state them
+pub ruleset no_repeats = (path_distinct, path_to_self)
+
+pub ruleset along_hops = (crosses_next_hops, crosses_hop, crosses_first_hop)
+
+pub ruleset joined = (link_start, link_end, link_into)
+
+pub ruleset going_on = (path_arrives, path_goes_on, rest_is_path, hop_within)
+
+pub ruleset tree = (some_parent, one_parent, root)
+
+pub ruleset growth = (path_by_parent, path_from_root, begin_is_path)

@@ -17,7 +17,7 @@ pub fn one_path_leads_to_each_rank()
 {}
 
 /// A path repeats no rank, but for a rank's path to itself, which is the link from the rank to itself.
-#[tactic(auto, using(crate::proofs::PathLaws::path_distinct, crate::proofs::PathLaws::path_to_self))]
+#[tactic(auto, using(crate::proofs::PathLaws::no_repeats))]
 pub fn no_rank_is_repeated()
     ensures others { (layout : Shape) (scheme : Scheme) (from to : ℕ) → AreRanks layout from to → from ≢ to →
         IsDistinct nat_eq (path layout scheme from to) }
@@ -26,7 +26,7 @@ pub fn no_rank_is_repeated()
 {}
 
 /// A path has few links, and one rank more. Its ranks are ranks of the layout.
-#[tactic(auto, using(crate::proofs::Lengths::link_count_few, crate::proofs::Lengths::path_short, crate::proofs::PathLaws::passes_within))]
+#[tactic(auto, using(crate::proofs::Lengths::short_paths, crate::proofs::PathLaws::passes_within))]
 pub fn paths_are_short()
     ensures few_links { (layout : Shape) (scheme : Scheme) (from to : ℕ) → AreRanks layout from to →
         length (links (path layout scheme from to)) ≤ most_links scheme }
@@ -38,7 +38,7 @@ pub fn paths_are_short()
 
 /// A path follows the next hops towards its destination, and nothing else: each of its links leads to the
 /// next hop, and from each rank before the destination it crosses the link to the next hop.
-#[tactic(auto, using(crate::proofs::PathLaws::crosses_next_hops, crate::proofs::PathLaws::crosses_hop, crate::proofs::PathLaws::crosses_first_hop))]
+#[tactic(auto, using(crate::proofs::PathLaws::along_hops))]
 pub fn paths_follow_the_next_hops()
     ensures each_link { (layout : Shape) (scheme : Scheme) (from to a b : ℕ) → AreRanks layout from to →
         IsTrue (crosses (path layout scheme from to) a b) → b ≡ hop layout scheme a to }
@@ -51,7 +51,7 @@ pub fn paths_follow_the_next_hops()
 
 /// The links of a path join its ranks: both ends of a link are on the path, and each rank but the sender
 /// is the end of a link.
-#[tactic(auto, using(crate::proofs::PathLaws::link_start, crate::proofs::PathLaws::link_end, crate::proofs::PathLaws::link_into))]
+#[tactic(auto, using(crate::proofs::PathLaws::joined))]
 pub fn links_join_the_ranks_of_a_path()
     ensures start { (layout : Shape) (scheme : Scheme) (from to a b : ℕ) → AreRanks layout from to →
         IsTrue (crosses (path layout scheme from to) a b) → IsTrue (passes (path layout scheme from to) a) }
@@ -64,7 +64,7 @@ pub fn links_join_the_ranks_of_a_path()
 
 /// A path goes on from the next hop as if that were the sender: where a message is going doesn't depend on
 /// where it came from. So from any rank on a path the rest of it is the path from that rank.
-#[tactic(auto, using(crate::proofs::PathLaws::path_arrives, crate::proofs::PathLaws::path_goes_on, crate::proofs::PathLaws::rest_is_path, crate::proofs::PathLaws::hop_within))]
+#[tactic(auto, using(crate::proofs::PathLaws::going_on))]
 pub fn paths_go_on_as_from_the_next_hop()
     ensures arrives { (layout : Shape) (scheme : Scheme) (from to : ℕ) → AreRanks layout from to →
         hop layout scheme from to ≡ to → path layout scheme from to ≡ from ∷ to ∷ [] }
@@ -81,7 +81,7 @@ pub fn paths_go_on_as_from_the_next_hop()
 /// The paths of one sender make a tree with the sender as its root. Each rank on them has one rank before
 /// it, its parent, the same on all paths of this sender. No link leads back to the root, but for the root's
 /// path to itself.
-#[tactic(auto, using(crate::proofs::PathLaws::some_parent, crate::proofs::PathLaws::one_parent, crate::proofs::PathLaws::root))]
+#[tactic(auto, using(crate::proofs::PathLaws::tree))]
 pub fn paths_of_a_sender_make_a_tree()
     ensures some_parent { (layout : Shape) (scheme : Scheme) (root to : ℕ) → AreRanks layout root to →
         (a : ℕ) × IsTrue (crosses (path layout scheme root to) a to) }
@@ -95,7 +95,7 @@ pub fn paths_of_a_sender_make_a_tree()
 
 /// The tree of a sender grows link by link: the path to a rank is the path to its parent with the link
 /// from there, and it is the beginning of each path over that rank.
-#[tactic(auto, using(crate::proofs::PathLaws::path_by_parent, crate::proofs::PathLaws::path_from_root, crate::proofs::PathLaws::begin_is_path, crate::proofs::PathLaws::link_ends_path))]
+#[tactic(auto, using(crate::proofs::PathLaws::growth))]
 pub fn trees_grow_link_by_link()
     ensures parent { (layout : Shape) (scheme : Scheme) (root to a b : ℕ) → AreRanks layout root to →
         IsTrue (crosses (path layout scheme root to) a b) → a ≢ root →

@@ -52,8 +52,10 @@ impl Layout {
         ensures accepted { IsOk result ↔ IsLayout (record { ranks = ranks; cores = cores }) }
         ensures no_ranks { IsErrOf result LayoutFault.NoRanks ↔ (ranks ≡ 0) }
         ensures too_many_ranks { IsErrOf result LayoutFault.TooManyRanks ↔ (MAX_RANKS < ranks) }
-        ensures no_cores { IsErrOf result LayoutFault.NoCores ↔ ((1 ≤ ranks) × (ranks ≤ MAX_RANKS) × (cores ≡ 0)) }
-        ensures uneven { IsErrOf result LayoutFault.Uneven ↔ ((1 ≤ ranks) × (ranks ≤ MAX_RANKS) × (1 ≤ cores) × (ranks % cores ≢ 0)) }
+        ensures no_cores { IsErrOf result LayoutFault.NoCores ↔
+            ((1 ≤ ranks) × (ranks ≤ MAX_RANKS) × (cores ≡ 0)) }
+        ensures uneven { IsErrOf result LayoutFault.Uneven ↔
+            ((1 ≤ ranks) × (ranks ≤ MAX_RANKS) × (1 ≤ cores) × (ranks % cores ≢ 0)) }
     {
         if ranks == 0 {
             return Err(LayoutFault::NoRanks);
