@@ -1,4 +1,8 @@
 //! Worked cases, and every pair of ranks of one layout.
+ghost use Rattle.std.specs.Prelude.{◌≡◌, [], ◌∷◌};
+ghost use Rattle.ygm_route.specs.declared.scheme.Scheme.TheVariants.{Direct, Nr, Nlnr};
+ghost use Rattle.ygm_route.specs.Path.{path};
+
 use super::*;
 use std::process::Abort;
 use std::test::Fail;
@@ -27,6 +31,7 @@ fn layouts_and_their_faults(rt: HostRuntime) -> Result<(), Fail> {
 
 #[test]
 fn worked_paths_over_two_nodes(rt: HostRuntime) -> Result<(), Fail> {
+    paths_by_definition();
     let layout = Layout::new(8, 4)?;
 
     // each rank of a path with its next hop and the links that are left
@@ -56,6 +61,16 @@ fn worked_paths_over_two_nodes(rt: HostRuntime) -> Result<(), Fail> {
     }
     Ok(())
 }
+
+/// The same paths, by the definition of a path.
+#[tactic(auto, unfolding(crate::specs::Path::path, crate::specs::Hop::hop))]
+fn paths_by_definition()
+    ensures direct { path (record { ranks = 8; cores = 4 }) Direct 1 6 ≡ 1 ∷ 6 ∷ [] }
+    ensures nr { path (record { ranks = 8; cores = 4 }) Nr 1 6 ≡ 1 ∷ 5 ∷ 6 ∷ [] }
+    ensures nlnr { path (record { ranks = 8; cores = 4 }) Nlnr 0 6 ≡ 0 ∷ 1 ∷ 5 ∷ 6 ∷ [] }
+    ensures from_gateway { path (record { ranks = 8; cores = 4 }) Nlnr 1 5 ≡ 1 ∷ 5 ∷ [] }
+    ensures to_oneself { path (record { ranks = 8; cores = 4 }) Nlnr 3 3 ≡ 3 ∷ 3 ∷ [] }
+{}
 
 // For each sender a row: its next hop towards each rank, as the character 48 above it, and the number of
 // links to each rank. Made by this Python:
