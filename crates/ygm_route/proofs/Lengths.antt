@@ -1,5 +1,5 @@
 -- How many links a path has.
-use Rattle.std.proofs.Common.{◌≡◌, ◌≢◌, ℕ, ◌+◌, ◌<◌, ◌≤◌, nat_eq, eq-eqb, false, length, not, ap, sym, ◌∙◌, refl, arith, lit≤, inl, inr}
+use Rattle.std.proofs.Common.{◌≡◌, ◌≢◌, ℕ, ◌+◌, ◌<◌, ◌≤◌, nat_eq, eq-eqb, false, List, length, not, ap, sym, ◌∙◌, refl, arith, lit≤, inl, inr}
 use Rattle.std.proofs.lemmas.Bool.{cases_eq}
 use Rattle.std.proofs.lemmas.Bool.Decides.{nat_tests}
 use Rattle.std.specs.Int.{from_bool}
@@ -29,6 +29,12 @@ one_if_other-other a b e =
 abbrev pub link_count : Shape → Scheme → ℕ → ℕ → ℕ
 link_count layout scheme s d = length (links (path layout scheme s d))
 
+counted : {xs ys : List ℕ} → xs ≡ ys → length (links xs) ≡ length (links ys)
+counted e = ap (λ zs. length (links zs)) e
+
+added : {x y m n : ℕ} → x ≡ m → y ≡ n → m + 1 + n ≡ x + 1 + y
+added e f = cc
+
 some_links : (scheme : Scheme) → 1 ≤ most_links scheme
 some_links Direct = lit≤ tt
 some_links Nr = lit≤ tt
@@ -49,29 +55,29 @@ module _ (layout : Shape) (s d : ℕ) (laid_out : IsLayout layout) (s_within : s
   ranks = record { laid_out = laid_out; from_within = s_within; to_within = d_within }
 
   pub link_count_near : (scheme : Scheme) → node layout s ≡ node layout d → link_count layout scheme s d ≡ 1
-  link_count_near scheme near = ap (λ xs. length (links xs)) (path-near layout scheme s d ranks (hop-near layout s d scheme near))
+  link_count_near scheme near = counted (path-near layout scheme s d ranks (hop-near layout s d scheme near))
 
   pub link_count_direct : link_count layout Direct s d ≡ 1
-  link_count_direct = ap (λ xs. length (links xs)) (path-near layout Direct s d ranks (hop-direct layout s d))
+  link_count_direct = counted (path-near layout Direct s d ranks (hop-direct layout s d))
 
   pub link_count_nr_same : node layout s ≢ node layout d → core layout s ≡ core layout d → link_count layout Nr s d ≡ 1
   link_count_nr_same far same =
-      ap (λ xs. length (links xs)) (path-near layout Nr s d ranks (hop-nr layout s d far ∙ ap (λ x. rank_at layout (node layout d) x) same ∙ rank_at-node-core layout d))
+      counted (path-near layout Nr s d ranks (hop-nr layout s d far ∙ ap (λ x. rank_at layout (node layout d) x) same ∙ rank_at-node-core layout d))
 
   pub link_count_nr_other : node layout s ≢ node layout d → core layout s ≢ core layout d → link_count layout Nr s d ≡ 2
   link_count_nr_other far other =
-      ap (λ xs. length (links xs)) (path-one layout Nr s d ranks _ (way_nr layout s d ranks far other))
+      counted (path-one layout Nr s d ranks _ (way_nr layout s d ranks far other))
 
-  -- a link for entering the network where the sender is no gateway, and one for leaving it where the destination is none
+  -- a link into the gateway where the sender is none, and a link out of it where the destination is none
   pub link_count_nlnr : node layout s ≢ node layout d → link_count layout Nlnr s d ≡ one_if_other (core layout s) (gateway layout s d) + 1 + one_if_other (core layout d) (gateway layout s d)
   link_count_nlnr far = elim (cases_eq (core layout s) (gateway layout s d)) [
     | inl out ↦ elim (cases_eq (core layout d) (gateway layout s d)) [
-      | inl into ↦ ap (λ xs. length (links xs)) (path-near layout Nlnr s d ranks (hop-nlnr_out layout s d far out ∙ ap (λ x. rank_at layout (node layout d) x) (sym into) ∙ rank_at-node-core layout d)) ∙ sym (ap (λ n. n + 1 + one_if_other (core layout d) (gateway layout s d)) (one_if_other-same _ _ out) ∙ ap (λ n. 0 + 1 + n) (one_if_other-same _ _ into))
-      | inr over ↦ ap (λ xs. length (links xs)) (path-one layout Nlnr s d ranks _ (way_out layout s d ranks far out over)) ∙ sym (ap (λ n. n + 1 + one_if_other (core layout d) (gateway layout s d)) (one_if_other-same _ _ out) ∙ ap (λ n. 0 + 1 + n) (one_if_other-other _ _ over))
+      | inl into ↦ counted (path-near layout Nlnr s d ranks (hop-nlnr_out layout s d far out ∙ ap (λ x. rank_at layout (node layout d) x) (sym into) ∙ rank_at-node-core layout d)) ∙ added (one_if_other-same _ _ out) (one_if_other-same _ _ into)
+      | inr over ↦ counted (path-one layout Nlnr s d ranks _ (way_out layout s d ranks far out over)) ∙ added (one_if_other-same _ _ out) (one_if_other-other _ _ over)
     ]
     | inr inside ↦ elim (cases_eq (core layout d) (gateway layout s d)) [
-      | inl into ↦ ap (λ xs. length (links xs)) (path-one layout Nlnr s d ranks _ (way_in layout s d ranks far inside into)) ∙ sym (ap (λ n. n + 1 + one_if_other (core layout d) (gateway layout s d)) (one_if_other-other _ _ inside) ∙ ap (λ n. 1 + 1 + n) (one_if_other-same _ _ into))
-      | inr over ↦ ap (λ xs. length (links xs)) (path-two layout Nlnr s d ranks _ _ (way_over layout s d ranks far inside over)) ∙ sym (ap (λ n. n + 1 + one_if_other (core layout d) (gateway layout s d)) (one_if_other-other _ _ inside) ∙ ap (λ n. 1 + 1 + n) (one_if_other-other _ _ over))
+      | inl into ↦ counted (path-one layout Nlnr s d ranks _ (way_in layout s d ranks far inside into)) ∙ added (one_if_other-other _ _ inside) (one_if_other-same _ _ into)
+      | inr over ↦ counted (path-two layout Nlnr s d ranks _ _ (way_over layout s d ranks far inside over)) ∙ added (one_if_other-other _ _ inside) (one_if_other-other _ _ over)
     ]
   ]
 
