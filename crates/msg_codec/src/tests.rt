@@ -119,3 +119,13 @@ fn faults_are_told_apart(rt: HostRuntime) -> Result<(), Fail> {
     assert_eq!(rt; text.as_str(), "out of memory");
     Ok(())
 }
+
+#[test]
+fn the_laws_hold_at_the_types_of_bodies() {
+    no_spelling_begins_another::<(Body, u64)>();
+    what_was_put_is_read_again::<(Body, u64)>();
+    no_two_lists_are_spelled_alike();
+    item_counts_are_pairs();
+    item_counts_are_read_again();
+    no_two_item_counts_are_spelled_alike();
+}

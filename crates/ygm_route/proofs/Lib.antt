@@ -1,0 +1,9 @@
+pub mod Places
+pub mod Hops
+pub mod Ways
+pub mod Lists
+pub mod Standing
+pub mod PathLaws
+pub mod Only
+pub mod Paths
+pub mod Lengths
