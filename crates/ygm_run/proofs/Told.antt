@@ -1,13 +1,13 @@
 -- What is to come, where it is told.
-use Rattle.std.proofs.Common.{◌≡◌, ◌<◌, ℕ, List, [], ◌∷◌, ◌++◌, length, map, Option, Some, None, Ok, refl, ap, subst, ◌∙◌, sym, IfSome}
+use Rattle.std.proofs.Common.{◌≡◌, ◌<◌, ℕ, List, [], ◌∷◌, ◌++◌, length, map, Option, Some, None, Ok, Err, refl, ap, subst, ◌∙◌, sym, IfSome}
 use Rattle.std.proofs.lemmas.List.{append-nil, append_assoc}
 use Rattle.std.specs.Option.{option_map}
 use Rattle.ygm_io.specs.Content.{Told, TakenFrom, NothingLeft}
 use Rattle.ygm_run.specs.Lines.{raw_lines, text_of, LacksLf, StartsTooLong}
 use Rattle.ygm_run.specs.Pieces.{StartsWithLine, AreLastLine}
-use Rattle.ygm_run.specs.Turns.{to_come, raw_lines_to_come, lines_to_come, FirstTaken, RawLineTaken, IfLine}
+use Rattle.ygm_run.specs.Turns.{to_come, raw_lines_to_come, lines_to_come, FirstTaken, RawLineTaken, IfLine, Answer}
 use Rattle.ygm_run.specs.declared.line_reader.Got.{Got}
-use Rattle.ygm_run.specs.declared.line_reader.Got.TheVariants.{Line}
+use Rattle.ygm_run.specs.declared.line_reader.Got.TheVariants.{Line, More, End}
 use Rattle.ygm_run.proofs.Cuts.{raw_lines-of_line, raw_lines-at_end}
 
 -- what was read is held
@@ -95,5 +95,14 @@ too_long_to_come held piece before (Some rest) e h =
 pub raw_line_given : (got : Got) (text bytes bytes' held held' : List ℕ) (before now : Told) → got ≡ Line text → bytes' ≡ bytes → held' ≡ held → RawLineTaken text (raw_lines_to_come bytes before) (raw_lines_to_come held now) → IfLine (Ok got) (λ line. RawLineTaken line (raw_lines_to_come bytes' before) (raw_lines_to_come held' now))
 raw_line_given got text bytes bytes' held held' before now e b h line = rw (e, b, h) line
 
-pub line_given : (got : Got) (text bytes bytes' held held' : List ℕ) (before now : Told) → got ≡ Line text → bytes' ≡ bytes → held' ≡ held → RawLineTaken text (raw_lines_to_come bytes before) (raw_lines_to_come held now) → IfLine (Ok got) (λ line. FirstTaken line (lines_to_come bytes' before) (lines_to_come held' now))
-line_given got text bytes bytes' held held' before now e b h line = rw (e, b, h) (texts_taken text bytes held before now line)
+-- its text goes with it
+pub text_given : (answer : Answer) (bytes held : List ℕ) (before now : Told) → IfLine answer (λ line. RawLineTaken line (raw_lines_to_come bytes before) (raw_lines_to_come held now)) → IfLine answer (λ line. FirstTaken line (lines_to_come bytes before) (lines_to_come held now))
+text_given (Ok (Line line)) bytes held before now taken = texts_taken line bytes held before now taken
+text_given (Ok More) bytes held before now taken = tt
+text_given (Ok End) bytes held before now taken = tt
+text_given (Err fault) bytes held before now taken = tt
+
+-- no line is too long where nothing is to come
+pub none_too_long : (bytes : Told) → bytes ≡ Some [] → IfSome bytes StartsTooLong → ⊥
+none_too_long None e h = cc
+none_too_long (Some bytes) e h = let empty : bytes ≡ [] = cc in let long : StartsTooLong [] = rw empty at h in cc

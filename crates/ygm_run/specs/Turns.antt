@@ -87,3 +87,12 @@ is_last (Ok End) = true
 is_last (Err ReadFault) = true
 is_last (Err (LineTooLong line)) = true
 is_last (Err NoMemory) = false
+
+-- neither a line nor a promise of one: the end, or a fault that says nothing of the lines
+abbrev pub EndsOrFails : Answer → Type 0
+EndsOrFails (Ok (Line line)) = ⊥
+EndsOrFails (Ok More) = ⊥
+EndsOrFails (Ok End) = ⊤
+EndsOrFails (Err ReadFault) = ⊤
+EndsOrFails (Err (LineTooLong line)) = ⊥
+EndsOrFails (Err NoMemory) = ⊤

@@ -1,9 +1,9 @@
 //! The lines of a source.
-ghost use Rattle.std.specs.Prelude.{◌≡◌, ◌+◌, ◌-◌, ◌^◌, ◌<◌, ◌≤◌, [], length, min, false, is_some, IfSome, IfOk, IsErrOf};
+ghost use Rattle.std.specs.Prelude.{◌≡◌, ◌+◌, ◌-◌, ◌^◌, ◌<◌, ◌≤◌, [], length, min, false, is_some, Some, IfSome, IfOk, IsErrOf};
 ghost use Rattle.ygm_io.specs.Content.{NothingLeft};
 ghost use Rattle.ygm_io.specs.Faults.{Rose};
 ghost use Rattle.ygm_run.specs.Lines.{LacksLf, StartsTooLong, max_line};
-ghost use Rattle.ygm_run.specs.Turns.{FirstTaken, RawLineTaken, IfLine, OnLine, UnlessLine, OnMore, OnEnd, IfTooLong, UnlessReadFault, is_last, to_come, raw_lines_to_come, lines_to_come};
+ghost use Rattle.ygm_run.specs.Turns.{FirstTaken, RawLineTaken, IfLine, OnLine, UnlessLine, OnMore, OnEnd, IfTooLong, UnlessReadFault, EndsOrFails, is_last, to_come, raw_lines_to_come, lines_to_come};
 
 pub use crate::pieces::READING_SPACE;
 use crate::pieces::{Pieces, TooLong};
@@ -135,6 +135,9 @@ impl LineReader {
 
         ensures end_all_given { OnEnd result ((self.old.held ≡ []) × (self.new.held ≡ [])) }
         ensures end_nothing_left { OnEnd result (NothingLeft (to_come self.old.held (S.left source.old))) }
+
+        // Where nothing is to come, there is no other answer but a fault of reading or of memory.
+        ensures end_if_nothing_to_come { to_come self.old.held (S.left source.old) ≡ Some [] → EndsOrFails result }
 
         ensures too_long { IfTooLong result (λ line. StartsTooLong self.new.held) }
         ensures too_long_to_come { IfTooLong result (λ line.
