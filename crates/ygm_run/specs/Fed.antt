@@ -13,7 +13,7 @@ use Rattle.ygm_run.specs.declared.input.FileFault.TheVariants.{Read, TooLong, Co
 use Rattle.ygm_run.specs.declared.line_reader.LineFault.{LineFault}
 use Rattle.ygm_run.specs.declared.line_reader.LineFault.TheVariants.{ReadFault, LineTooLong, NoMemory as LineNoMemory}
 use Rattle.ygm_run.specs.Carried.{Carried}
-use Rattle.ygm_run.specs.Lines.{max_line}
+use Rattle.ygm_run.specs.Lines.{max_line, lines_of}
 use Rattle.ygm_run.specs.Turns.{lines_to_come, raw_lines_to_come}
 
 -- the same lines, and more of a rank
@@ -55,3 +55,9 @@ OnTooLong (Err Read) P = ⊤
 OnTooLong (Err (TooLong line)) P = P
 OnTooLong (Err (CountFull at)) P = ⊤
 OnTooLong (Err NoMemory) P = ⊤
+
+-- The lines of a rank's bytes are on their way.
+pub record IsSent (ranks rank : ℕ) (before after : List (State Counts)) (old new : Links) (left : Told) : Type 0 where
+  pub lines : List (List ℕ)
+  pub carried : (own : ℕ → List (List ℕ)) → Carried own ranks before old → Carried (with_lines own rank lines) ranks after new
+  pub all : IfSome left (λ bytes. lines ≡ lines_of bytes)

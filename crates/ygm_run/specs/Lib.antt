@@ -1,5 +1,6 @@
 pub mod Carried
 pub mod Fed
+pub mod Job
 pub mod Lines
 pub mod Notes
 pub mod Pieces

@@ -4,8 +4,8 @@ ghost use Rattle.comm_rank.specs.Rank.{states_of, sent_count_of};
 ghost use Rattle.ygm_io.specs.Content.{NothingLeft};
 ghost use Rattle.ygm_io.specs.Faults.{Rose};
 ghost use Rattle.ygm_run.specs.Carried.{Carried};
-ghost use Rattle.ygm_run.specs.Fed.{Fed, OnTooLong, with_lines, turns_left};
-ghost use Rattle.ygm_run.specs.Lines.{StartsTooLong, first_too_long, lines_of, raw_lines};
+ghost use Rattle.ygm_run.specs.Fed.{Fed, IsSent, OnTooLong, turns_left};
+ghost use Rattle.ygm_run.specs.Lines.{StartsTooLong, first_too_long, raw_lines};
 ghost use Rattle.ygm_run.specs.Turns.{to_come};
 
 use crate::line_reader::{Got, LineFault, LineReader};
@@ -96,4 +96,27 @@ fn take_turn<S: Source>(
         Got::More => Ok(false),
         Got::End => Ok(true),
     }
+}
+
+/// Reads a rank's file to its end, and sends each of its lines.
+pub(crate) fn read_file<S: Source>(
+    alloc: Global,
+    world: &mut World,
+    rank: u32,
+    source: &mut S,
+) -> Result<(), FileFault>
+    requires below { rank < world.old.ranks }
+    ensures sent { OnOk result (IsSent world.old.ranks rank (states_of world.old.comms.items) (states_of world.new.comms.items) world.old.lists world.new.lists (S.left source.old)) }
+    ensures nothing_left { OnOk result (NothingLeft (S.left source.new)) }
+    ensures ranks { world.new.ranks ≡ world.old.ranks }
+    ensures cause { IsErrOf result FileFault.Read → Rose (S.faults source.old) (S.faults source.new) }
+    ensures stands { OnOk result (S.faults source.new ≡ S.faults source.old) }
+    ensures too_long { OnTooLong result (IfSome (S.left source.old) (λ bytes. IsSome (first_too_long (raw_lines bytes)))) }
+{
+    let mut reader = LineReader::new(alloc)?;
+    let mut ended = false;
+    while !ended {
+        ended = take_turn(world, rank, &mut reader, source)?;
+    }
+    Ok(())
 }

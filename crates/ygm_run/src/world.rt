@@ -54,6 +54,13 @@ impl World {
         })
     }
 
+    /// The number of ranks.
+    pub(crate) fn ranks(&self) -> u32
+        ensures { result ≡ self.now.ranks }
+    {
+        self.ranks
+    }
+
     // Sends the line's letter to the line's owner.
     fn insert(&mut self, rank: u32, line: &[u8]) -> Result<(), CommFault>
         requires below { rank < self.old.ranks }
