@@ -3,6 +3,7 @@ pub mod Cuts
 pub mod InOrder
 pub mod LineRows
 pub mod Members
+pub mod NoteLines
 pub mod Parts
 pub mod Shards
 pub mod Table
