@@ -112,15 +112,13 @@ mod tests {
     #[test]
     fn a_full_counter_is_told_by_its_rank(rt: HostRuntime) -> Result<(), Fail> {
         let alloc = rt.alloc();
-        let mut counter = Counter::new(0);
-        if let Err(at) = counter.raise(1) {
-            let full = Status::CountFull { rank: 3, at };
-            assert_eq!(rt;
-                note_of(alloc, &full, &[])?.as_slice(),
-                b"ygm_run: rank 3 is at a limit of its counts\n".as_slice()
-            );
-            assert_eq!(rt; full.number(), 7);
-        }
+        let at = Counter::new(0).raise(1).err().ok_or("raised")?;
+        let full = Status::CountFull { rank: 3, at };
+        assert_eq!(rt;
+            note_of(alloc, &full, &[])?.as_slice(),
+            b"ygm_run: rank 3 is at a limit of its counts\n".as_slice()
+        );
+        assert_eq!(rt; full.number(), 7);
         Ok(())
     }
 }
