@@ -1,5 +1,5 @@
 -- Lines are given to the world one after another.
-use Rattle.std.proofs.Common.{◌≡◌, ◌≢◌, ℕ, ◌+◌, ◌<◌, ◌≤◌, Bool, true, false, cond, eqb, List, [], ◌∷◌, ◌++◌, Some, None, Option, IfSome, IsSome, length, map, refl, sym, ap, ◌∙◌, subst, inl, inr, arith, append_assoc}
+use Rattle.std.proofs.Common.{◌≡◌, ◌≢◌, ℕ, ◌+◌, ◌<◌, ◌≤◌, Bool, true, false, cond, eqb, List, [], ◌∷◌, ◌++◌, Some, None, Option, Err, IfSome, IsSome, length, map, refl, sym, ap, ◌∙◌, subst, inl, inr, arith, append_assoc}
 use Rattle.std.specs.Option.{option_map}
 use Rattle.std.specs.List.{AllByRecursion}
 use Rattle.std.proofs.lemmas.List.{append-nil}
@@ -10,7 +10,9 @@ use Rattle.comm_rank.specs.Links.{Links, waiting}
 use Rattle.comm_rank.specs.Runs.{State}
 use Rattle.counting_set.specs.Counting.{Counts}
 use Rattle.ygm_run.specs.Carried.{Carried, letters_of, with_line}
-use Rattle.ygm_run.specs.Fed.{Fed, FrontTaken, with_lines}
+use Rattle.ygm_run.specs.declared.input.FileFault.{FileFault}
+use Rattle.ygm_run.specs.declared.input.FileFault.TheVariants.{Read, TooLong, CountFull, NoMemory}
+use Rattle.ygm_run.specs.Fed.{Fed, FrontTaken, OnTooLong, with_lines}
 use Rattle.ygm_run.specs.Lines.{max_line, lines_of, raw_lines, first_too_long, StartsTooLong}
 use Rattle.ygm_run.specs.Turns.{to_come, lines_to_come, raw_lines_to_come, FirstTaken, RawLineTaken}
 
@@ -117,3 +119,9 @@ fed_too_long n rank s0 s1 l0 l1 h1 (Some bytes) (Some rest) f long =
     let e : Some (raw_lines bytes) ≡ Some (f.raws ++ raw_lines (h1 ++ rest)) = f.taken in
     let all : raw_lines bytes ≡ f.raws ++ raw_lines (h1 ++ rest) = cc in
     subst (λ w. IsSome (first_too_long w)) (sym all) (later_too_long f.raws (raw_lines (h1 ++ rest)) f.short long)
+
+pub too_long_by : {A B P Q : Type 0} (fault : FileFault) → OnTooLong (Err {T = A} fault) P → (P → Q) → OnTooLong (Err {T = B} fault) Q
+too_long_by Read h f = tt
+too_long_by (TooLong line) h f = f h
+too_long_by (CountFull at) h f = tt
+too_long_by NoMemory h f = tt

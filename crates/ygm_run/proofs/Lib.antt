@@ -4,8 +4,10 @@ pub mod Counting
 pub mod Cuts
 pub mod Feeding
 pub mod InOrder
+pub mod Joining
 pub mod LineRows
 pub mod Members
+pub mod NoteLines
 pub mod Owned
 pub mod Parts
 pub mod Senders

@@ -1,5 +1,5 @@
 //! The note of a status: what the program tells about how it ended.
-ghost use Rattle.std.specs.Prelude.{◌≡◌, IfOk, length};
+ghost use Rattle.std.specs.Prelude.{◌≡◌, IfOk, length, string_bytes};
 ghost use Rattle.ygm_run.specs.Notes.{FileIsBelow, note_text};
 ghost use Rattle.ygm_run.specs.Words.{texts_of};
 
@@ -7,29 +7,37 @@ use crate::status::Status;
 use msg_codec::Body2;
 use std::alloc::{AllocError, Global};
 
+/// The text of a status's note.
+fn text_of(alloc: Global, status: &Status, names: &[String]) -> Result<String, AllocError>
+    requires { FileIsBelow (length names.now) status.now }
+    ensures { IfOk result (λ text. string_bytes text ≡ note_text status.now (texts_of names.now)) }
+{
+    match status {
+        Status::Done => Ok(String::new(alloc)),
+        Status::Usage { kind } => format!(in alloc; "ygm_run: {}\n", kind.text()),
+        Status::OpenFault { file } => {
+            format!(in alloc; "ygm_run: cannot open {}\n", names[*file as usize])
+        }
+        Status::ReadFault { rank } => format!(in alloc; "ygm_run: read failed at rank {rank}\n"),
+        Status::BadLine { rank, line, why } => {
+            format!(in alloc; "ygm_run: rank {rank} line {line}: {}\n", why.text())
+        }
+        Status::WriteFault => format!(in alloc; "ygm_run: write failed\n"),
+        Status::NoMemory => format!(in alloc; "ygm_run: out of memory\n"),
+        Status::CountFull { rank, .. } => {
+            format!(in alloc; "ygm_run: rank {rank} is at a limit of its counts\n")
+        }
+    }
+}
+
 /// The note of a status: one line, or no bytes for `Done`. `names` are the files' names in their order.
 /// An error is want of memory; nothing is left of the note then.
 pub fn note_of(alloc: Global, status: &Status, names: &[String]) -> Result<Body2, AllocError>
     requires { FileIsBelow (length names.now) status.now }
     ensures { IfOk result (λ note. note ≡ note_text status.now (texts_of names.now)) }
 {
-    let note = match status {
-        Status::Done => String::new(alloc),
-        Status::Usage { kind } => format!(in alloc; "ygm_run: {}\n", kind.text())?,
-        Status::OpenFault { file } => {
-            format!(in alloc; "ygm_run: cannot open {}\n", names[*file as usize])?
-        }
-        Status::ReadFault { rank } => format!(in alloc; "ygm_run: read failed at rank {rank}\n")?,
-        Status::BadLine { rank, line, why } => {
-            format!(in alloc; "ygm_run: rank {rank} line {line}: {}\n", why.text())?
-        }
-        Status::WriteFault => format!(in alloc; "ygm_run: write failed\n")?,
-        Status::NoMemory => format!(in alloc; "ygm_run: out of memory\n")?,
-        Status::CountFull { rank, .. } => {
-            format!(in alloc; "ygm_run: rank {rank} is at a limit of its counts\n")?
-        }
-    };
-    Ok(Body2::from_vec(note.into_bytes()))
+    let text = text_of(alloc, status, names)?;
+    Ok(Body2::from_vec(text.into_bytes()))
 }
 
 #[cfg(test)]
@@ -104,15 +112,13 @@ mod tests {
     #[test]
     fn a_full_counter_is_told_by_its_rank(rt: HostRuntime) -> Result<(), Fail> {
         let alloc = rt.alloc();
-        let mut counter = Counter::new(0);
-        if let Err(at) = counter.raise(1) {
-            let full = Status::CountFull { rank: 3, at };
-            assert_eq!(rt;
-                note_of(alloc, &full, &[])?.as_slice(),
-                b"ygm_run: rank 3 is at a limit of its counts\n".as_slice()
-            );
-            assert_eq!(rt; full.number(), 7);
-        }
+        let at = Counter::new(0).raise(1).err().ok_or("raised")?;
+        let full = Status::CountFull { rank: 3, at };
+        assert_eq!(rt;
+            note_of(alloc, &full, &[])?.as_slice(),
+            b"ygm_run: rank 3 is at a limit of its counts\n".as_slice()
+        );
+        assert_eq!(rt; full.number(), 7);
         Ok(())
     }
 }

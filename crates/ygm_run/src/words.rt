@@ -75,7 +75,7 @@ pub fn read_words(words: &[String]) -> Result<Order<'_>, UsageKind>
     }
 }
 
-/// The files that the words after a job name. No option is built, so that each is refused.
+/// The files that the words after a job name. No option is known, so that each is refused.
 fn names_of(words: &[String]) -> Result<&[String], UsageKind>
     ensures { MatchResult result
         (λ names. files_of (texts_of words.now) ≡ Ok (texts_of names.now))
