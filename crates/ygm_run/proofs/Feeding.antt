@@ -1,5 +1,5 @@
 -- Lines are given to the world one after another.
-use Rattle.std.proofs.Common.{◌≡◌, ◌≢◌, ℕ, ◌+◌, ◌<◌, ◌≤◌, Bool, true, false, cond, eqb, List, [], ◌∷◌, ◌++◌, Some, None, Option, Err, IfSome, IsSome, length, map, refl, sym, ap, ◌∙◌, subst, inl, inr, arith, append_assoc}
+use Rattle.std.proofs.Common.{◌≡◌, ◌≢◌, ℕ, ◌+◌, ◌<◌, ◌≤◌, Bool, true, false, cond, eqb, List, [], ◌∷◌, ◌++◌, Some, None, Option, Result, Err, IfSome, IsSome, length, map, refl, sym, ap, ◌∙◌, subst, inl, inr, arith, append_assoc}
 use Rattle.std.specs.Option.{option_map}
 use Rattle.std.specs.List.{AllByRecursion}
 use Rattle.std.proofs.lemmas.List.{append-nil}
@@ -120,8 +120,12 @@ fed_too_long n rank s0 s1 l0 l1 h1 (Some bytes) (Some rest) f long =
     let all : raw_lines bytes ≡ f.raws ++ raw_lines (h1 ++ rest) = cc in
     subst (λ w. IsSome (first_too_long w)) (sym all) (later_too_long f.raws (raw_lines (h1 ++ rest)) f.short long)
 
-pub too_long_by : {A B P Q : Type 0} (fault : FileFault) → OnTooLong (Err {T = A} fault) P → (P → Q) → OnTooLong (Err {T = B} fault) Q
-too_long_by Read h f = tt
-too_long_by (TooLong line) h f = f h
-too_long_by (CountFull at) h f = tt
-too_long_by NoMemory h f = tt
+-- a call that failed so
+abbrev pub failed : (A : Type 0) → FileFault → Result A FileFault
+failed A fault = Err fault
+
+pub too_long_by : (A B P Q : Type 0) (fault : FileFault) → OnTooLong (failed A fault) P → (P → Q) → OnTooLong (failed B fault) Q
+too_long_by A B P Q Read h f = tt
+too_long_by A B P Q (TooLong line) h f = f h
+too_long_by A B P Q (CountFull at) h f = tt
+too_long_by A B P Q NoMemory h f = tt

@@ -16,7 +16,7 @@ use Rattle.ygm_run.specs.Carried.{Carried}
 use Rattle.ygm_run.specs.Fed.{IsSent, OnTooLong, with_lines}
 use Rattle.ygm_run.specs.Job.{AreTold, HasCause, HasLongLine, fault_at, lines_of_each, own_upto}
 use Rattle.ygm_run.specs.Lines.{lines_of}
-use Rattle.ygm_run.proofs.Feeding.{same_own}
+use Rattle.ygm_run.proofs.Feeding.{same_own, failed}
 
 own_below : (files : List (List (List ℕ))) (k r : ℕ) → r < k → own_upto files k r ≡ get_or files r []
 own_below files k r lt = ap (λ b. cond b (get_or files r []) []) (lt-ltb r k lt)
@@ -84,7 +84,7 @@ nothing_more left sources k now before this r s lt at = elim (cases_eq r k) [
 
 -- the fault of a rank's file has its cause
 pub cause_at : {X : Type 0} (left : X → Told) (faults : X → ℕ) (start sources : List X) (k : ℕ) (item now : X) (fault : FileFault) → slice_get start k ≡ Some item → k < length sources → (fault ≡ FileRead → Rose (faults item) (faults now))
-    → OnTooLong (Err {T = Unit {0}} fault) (HasLongLine (left item)) → HasCause (map left start) (map faults (set sources k now)) (fault_at k fault)
+    → OnTooLong (failed (Unit {0}) fault) (HasLongLine (left item)) → HasCause (map left start) (map faults (set sources k now)) (fault_at k fault)
 cause_at left faults start sources k item now FileRead at lt rose long =
     let is : get_or (map faults (set sources k now)) k 0 ≡ faults now =
         get_or_from_slice_get (map faults (set sources k now)) k (faults now) 0 (slice_get-map faults (set sources k now) k ∙ ap (option_map faults) (slice_get-set_at sources k now lt)) in

@@ -1,4 +1,5 @@
 pub mod Carried
+pub mod Ending
 pub mod Fed
 pub mod Job
 pub mod Lines

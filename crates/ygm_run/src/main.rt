@@ -5,6 +5,7 @@ mod input;
 pub mod line_reader;
 pub mod note;
 mod pieces;
+mod running;
 pub mod status;
 mod tally;
 pub mod tally_text;

@@ -1,4 +1,4 @@
-use Rattle.std.proofs.Common.{◌≡◌, ◌∙◌, ℕ, List, [], IfSome, IsSome, false, refl, ap, sym, subst, arith}
+use Rattle.std.proofs.Common.{◌≡◌, ◌∙◌, ℕ, Bool, List, [], IfSome, IsSome, false, refl, ap, sym, subst, arith}
 use Rattle.std.proofs.lemmas.Bool.{false≢true}
 use Rattle.std.proofs.lemmas.Result.{err_from_is_err_and}
 use Rattle.comm_rank.specs.Rank.{states_of}
@@ -24,7 +24,7 @@ pub returns-in_err-ended-clause-too_long : goal.returns-in_err-ended-clause-too_
 returns-in_err-ended-clause-too_long g c =
     let p = err_from_is_err_and c.from_residual-in_err-ended.result c.from_residual-in_err-ended.ensures.1 in
     rw (p.1, p.2)
-    (too_long_by _ c.in_err-ended.ensures.too_long (fed_too_long _ _ _ _ _ _ _ (g.S.Source.left c.args.source.now) (g.S.Source.left c.loop-ended.source) c.loop-ended.invariant.fed))
+    (too_long_by Bool (Unit {0}) _ _ _ c.in_err-ended.ensures.too_long (fed_too_long _ _ _ _ _ _ _ (g.S.Source.left c.args.source.now) (g.S.Source.left c.loop-ended.source) c.loop-ended.invariant.fed))
 
 pub loop-ended-preserved : goal.loop-ended-preserved
 loop-ended-preserved g c =
