@@ -180,3 +180,14 @@ fn the_laws_can_be_cited() {
     counting_sends_nothing();
     counts_are_sums();
 }
+
+fn can_be_sent<T: Send>(value: T) -> T {
+    value
+}
+
+#[test]
+fn a_part_can_go_to_another_thread(rt: HostRuntime) -> Result<(), Fail> {
+    let counting = can_be_sent(Counting::new(rt.alloc())?);
+    assert_eq!(rt; counting.len_here(), 0);
+    Ok(())
+}
