@@ -1,13 +1,13 @@
 -- Where one of each line is added, each line is there once, with the number of lines equal to it.
-use Rattle.std.proofs.Common.{◌≡◌, ◌≢◌, ◌↔◌, inl, inr, ℕ, suc, zero, ◌+◌, ◌^◌, ◌<◌, ◌≤◌, List, [], ◌∷◌, map, length, Option, Some, None, All, AllPairs, Contains, sum_by, count_by, slice_index_or, refl, sym, ap, subst, ◌∙◌, arith}
+use Rattle.std.proofs.Common.{◌≡◌, ◌≢◌, inl, inr, ℕ, suc, zero, ◌^◌, ◌<◌, List, [], ◌∷◌, map, length, Option, Some, All, AllPairs, Contains, sum_by, count_by, slice_index_or, refl, sym, ap, subst, ◌∙◌, arith}
 use Rattle.std.specs.Prelude.{IfSome, bytes_eq, ⊤}
 use Rattle.std.specs.List.{AllByRecursion}
 use Rattle.std.proofs.lemmas.List.Kept.{AllPairs-cons}
 use Rattle.std.proofs.lemmas.List.Sums.{count_by-le-length}
 use Rattle.msg_codec.specs.declared.letter.Letter.{Letter}
 use Rattle.comm_rank.specs.Fold.{fold_from}
-use Rattle.counting_set.specs.Counting.{Counts, held, added, adds, share, count_in, counting_apply, AreCounted}
-use Rattle.counting_set.proofs.Adding.{bytes_eq-same, bytes_eq-other, cases_same, held-small, count_in-first, count_in-later}
+use Rattle.counting_set.specs.Counting.{Counts, added, adds, share, count_in, counting_apply, AreCounted}
+use Rattle.counting_set.proofs.Adding.{bytes_eq-same, bytes_eq-other, cases_same, count_in-first, count_in-later}
 use Rattle.counting_set.proofs.Sums.{after, fold-after, Fits64, count_in-after, sum_by-of}
 
 -- what stands later has another item

@@ -1,5 +1,5 @@
 -- The count of an item is the sum of what letters add to it, held at the end of its type.
-use Rattle.std.proofs.Common.{◌≡◌, ◌≢◌, inl, inr, ℕ, suc, ◌+◌, ◌-◌, ◌^◌, ◌<◌, ◌≤◌, ◌&&◌, eqb, leb, Bool, true, false, cond, List, [], ◌∷◌, map, length, Option, Some, None, fold, All, sum_by, slice_index_or, refl, sym, ap, subst, ◌∙◌, arith, le-leb, length-append}
+use Rattle.std.proofs.Common.{◌≡◌, inl, inr, ℕ, suc, ◌+◌, ◌^◌, ◌<◌, ◌≤◌, ◌&&◌, Bool, true, false, cond, List, [], ◌∷◌, map, length, Option, Some, None, All, sum_by, refl, sym, ap, subst, ◌∙◌, arith, le-leb, length-append}
 use Rattle.std.specs.List.{AllByRecursion}
 use Rattle.std.specs.Prelude.{IfSome, bytes_eq, ◌==◌, nat_le}
 use Rattle.std.proofs.lemmas.List.Sums.{sum_by-cons}
@@ -10,7 +10,7 @@ use Rattle.msg_codec.specs.Laws.{item_count_again, item_count_spelled}
 use Rattle.msg_codec.specs.declared.letter.Letter.{Letter}
 use Rattle.comm_rank.specs.Fold.{fold_from, handed_from}
 use Rattle.counting_set.specs.Counting.{Counts, held, added, added_if, adds, adds_of, share, count_in, counting_apply, add_letter}
-use Rattle.counting_set.proofs.Adding.{bytes_eq-same, bytes_eq-other, cases_same, held-small, count_in-added, count_in-added_other}
+use Rattle.counting_set.proofs.Adding.{bytes_eq-same, bytes_eq-other, cases_same, count_in-added, count_in-added_other}
 
 -- the contents after these adds
 abbrev pub after : Counts → List (Option (List ℕ × ℕ)) → Counts

@@ -12,3 +12,6 @@ pub use laws::{
     adds_of_one_are_counted, an_insert_adds_one, counting_sends_nothing, counts_are_sums,
 };
 pub use owner::{fnv, owner_of_key};
+
+#[cfg(test)]
+mod tests;

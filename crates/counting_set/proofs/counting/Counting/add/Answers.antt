@@ -1,4 +1,4 @@
-use Rattle.std.proofs.Common.{◌≡◌, ap, sym, refl, ◌∙◌, Vec, ℕ, Global, Bool}
+use Rattle.std.proofs.Common.{ap, sym, refl, ◌∙◌, Vec, ℕ, Global, Bool}
 use Rattle.std.specs.Prelude.{bytes_eq}
 use Rattle.indexmap.specs.IndexMap.{insert_entry}
 use Rattle.counting_set.specs.Counting.{added}
