@@ -1,5 +1,5 @@
 -- Lines are sent, and letters run, while all lines stay on their way.
-use Rattle.std.proofs.Common.{◌≡◌, ◌≢◌, ℕ, ◌+◌, ◌*◌, ◌<◌, ◌≤◌, ◌^◌, Bool, true, false, cond, eqb, List, [], ◌∷◌, ◌++◌, ◌⊎◌, Some, None, Option, length, map, set, suc, zero, refl, sym, ap, ◌∙◌, subst, inl, inr, arith, slice_get, append_assoc, length-append, length-set, get_or, replicate}
+use Rattle.std.proofs.Common.{◌≡◌, ℕ, ◌+◌, ◌*◌, ◌<◌, ◌≤◌, ◌^◌, cond, eqb, List, [], ◌∷◌, ◌++◌, ◌⊎◌, Some, length, map, set, suc, zero, refl, sym, ap, ◌∙◌, subst, inl, inr, arith, slice_get, append_assoc, length-append, length-set, get_or, replicate}
 use Rattle.std.proofs.lemmas.List.{append-nil, map-append, append_cancel_left, get_or-replicate}
 use Rattle.std.proofs.lemmas.List.Elements.{filter-append}
 use Rattle.std.proofs.lemmas.Bool.{cases_eq, cases_lt, eq-eqb, ne_eqb}
@@ -15,7 +15,7 @@ use Rattle.comm_rank.proofs.Worlds.{slice_get-set_same, slice_get-set_other, ite
 use Rattle.comm_rank.proofs.Places.{place_below, All-put}
 use Rattle.counting_set.specs.Counting.{Counts, counting_apply, add_letter}
 use Rattle.counting_set.specs.Owner.{owner_of_key}
-use Rattle.ygm_run.specs.Carried.{letters_of, Carried, with_line, IsQuiet, IsQuietFrom, AreFresh}
+use Rattle.ygm_run.specs.Carried.{letters_of, Carried, with_line, IsQuietFrom, AreFresh}
 
 -- a counting set sends nothing
 nothing_handed : (here n : ℕ) (c : Counts) (ls : List Letter) → handed_from counting_apply here n c ls ≡ []
@@ -96,8 +96,8 @@ carried_line own n s states links new line st st' c f at ch same counted bound f
             | inl x ↦
                 let goal : ℕ → Type 0 = λ k. letters_of n k j (with_line own s line k) ≡ letters_from k (c.ran j) ++ waiting new k j in
                 let front : letters_of n s j (with_line own s line s) ≡ (letters_from s (c.ran j) ++ waiting links s j) ++ letters_of n s j (line ∷ []) =
-                    ap (letters_of n s j) (with_line-same own s s line refl) ∙ letters_of-append n s j (own s) (line ∷ [])
-                    ∙ ap (λ w. w ++ letters_of n s j (line ∷ [])) (c.carried s j f b) in
+                ap (letters_of n s j) (with_line-same own s s line refl) ∙ letters_of-append n s j (own s) (line ∷ [])
+                ∙ ap (λ w. w ++ letters_of n s j (line ∷ [])) (c.carried s j f b) in
                 subst goal (sym x) (front ∙ append_assoc (letters_from s (c.ran j)) (waiting links s j) (letters_of n s j (line ∷ []))
                 ∙ ap (λ w. letters_from s (c.ran j) ++ w) (elim (cases_eq j d) [
                   | inl y ↦ ap (λ w. waiting links s j ++ w) (own_line n s j line (sym y))
@@ -142,8 +142,8 @@ carried_runs own n states after links new more c runs = record {
       let t' : j < links.ranks = omega (arith, t, c.grid) in
       let b = item_at states i (omega (arith, f, c.all)) in
       let step : waiting links i j ≡ letters_from i (more j) ++ waiting new i j =
-          sym (ap (λ (w : List Letter). waiting links i j ++ letters_to j w) (nothing_handed i links.ranks b.0.contents (more i)) ∙ append-nil (waiting links i j))
-          ∙ runs.carried i j b.0 f' t' b.1 in
+      sym (ap (λ (w : List Letter). waiting links i j ++ letters_to j w) (nothing_handed i links.ranks b.0.contents (more i)) ∙ append-nil (waiting links i j))
+      ∙ runs.carried i j b.0 f' t' b.1 in
       c.carried i j f t ∙ ap (λ w. letters_from i (c.ran j) ++ w) step
       ∙ sym (append_assoc (letters_from i (c.ran j)) (letters_from i (more j)) (waiting new i j))
       ∙ ap (λ w. w ++ waiting new i j) (sym (letters_from-append i (c.ran j) (more j)));
@@ -183,8 +183,8 @@ stays_quiet states after links new more from runs all f quiet to t =
     let t' : to < links.ranks = omega (arith, t, runs.ranks) in
     let b = item_at states from (omega (arith, f, all)) in
     let nothing : letters_from from (more to) ++ waiting new from to ≡ [] =
-        sym (runs.carried from to b.0 f t' b.1) ∙ ap (λ (w : List Letter). waiting links from to ++ letters_to to w) (nothing_handed from links.ranks b.0.contents (more from))
-        ∙ append-nil (waiting links from to) ∙ quiet to t' in
+    sym (runs.carried from to b.0 f t' b.1) ∙ ap (λ (w : List Letter). waiting links from to ++ letters_to to w) (nothing_handed from links.ranks b.0.contents (more from))
+    ∙ append-nil (waiting links from to) ∙ quiet to t' in
     nothing_last (letters_from from (more to)) (waiting new from to) nothing
 
 -- the caller of a weak barrier is quiet afterwards
@@ -194,10 +194,10 @@ caller_quiet caller states after links new s all c to t =
     let b = item_at states caller (omega (arith, c, all)) in
     let own = s.own to t' in
     let both : waiting links caller to ++ (own.0 ++ waiting new caller to) ≡ waiting links caller to ++ [] =
-        sym (append_assoc (waiting links caller to) own.0 (waiting new caller to))
-        ∙ ap (λ w. w ++ waiting new caller to) (sym own.1)
-        ∙ sym (s.runs.carried caller to b.0 c t' b.1)
-        ∙ ap (λ (w : List Letter). waiting links caller to ++ letters_to to w) (nothing_handed caller links.ranks b.0.contents (s.ran caller)) in
+    sym (append_assoc (waiting links caller to) own.0 (waiting new caller to))
+    ∙ ap (λ w. w ++ waiting new caller to) (sym own.1)
+    ∙ sym (s.runs.carried caller to b.0 c t' b.1)
+    ∙ ap (λ (w : List Letter). waiting links caller to ++ letters_to to w) (nothing_handed caller links.ranks b.0.contents (s.ran caller)) in
     nothing_last own.0 (waiting new caller to) (append_cancel_left (waiting links caller to) (own.0 ++ waiting new caller to) [] both)
 
 -- each stands at its own place, in a world of so many ranks

@@ -1,12 +1,11 @@
 -- Lines are given to the world one after another.
-use Rattle.std.proofs.Common.{◌≡◌, ◌≢◌, ℕ, ◌+◌, ◌<◌, ◌≤◌, Bool, true, false, cond, eqb, List, [], ◌∷◌, ◌++◌, Some, None, Option, Result, Err, IfSome, IsSome, length, map, refl, sym, ap, ◌∙◌, subst, inl, inr, arith, append_assoc}
+use Rattle.std.proofs.Common.{◌≡◌, ℕ, ◌+◌, ◌≤◌, Bool, true, false, cond, eqb, List, [], ◌∷◌, ◌++◌, Some, None, Option, Result, Err, IfSome, IsSome, length, refl, sym, ap, ◌∙◌, subst, arith, append_assoc}
 use Rattle.std.specs.Option.{option_map}
 use Rattle.std.specs.List.{AllByRecursion}
 use Rattle.std.proofs.lemmas.List.{append-nil}
-use Rattle.std.proofs.lemmas.Bool.{cases_eq, eq-eqb, ne_eqb, ltb-false, le-ltb}
+use Rattle.std.proofs.lemmas.Bool.{le-ltb}
 use Rattle.ygm_io.specs.Content.{Told}
-use Rattle.comm_rank.specs.Fold.{letters_from}
-use Rattle.comm_rank.specs.Links.{Links, waiting}
+use Rattle.comm_rank.specs.Links.{Links}
 use Rattle.comm_rank.specs.Runs.{State}
 use Rattle.counting_set.specs.Counting.{Counts}
 use Rattle.ygm_run.specs.Carried.{Carried, letters_of, with_line}
@@ -107,9 +106,9 @@ later_too_long [] later short long = subst IsSome (sym long) refl
 later_too_long (r ∷ raws) later short long =
     subst IsSome (sym (ap (λ b. cond b (Some 1) (option_map (λ number. number + 1) (first_too_long (raws ++ later)))) (le-ltb max_line (length r) short.0)))
     (mapped (first_too_long (raws ++ later)) (later_too_long raws later short.1 long)) where
-  mapped : (o : Option ℕ) → IsSome o → IsSome (option_map (λ number. number + 1) o)
-  mapped None h = h
-  mapped (Some k) h = refl
+      mapped : (o : Option ℕ) → IsSome o → IsSome (option_map (λ number. number + 1) o)
+      mapped None h = h
+      mapped (Some k) h = refl
 
 -- a line of the bytes is too long
 pub fed_too_long : (n rank : ℕ) (s0 s1 : List (State Counts)) (l0 l1 : Links) (h1 : List ℕ) (t0 t1 : Told) → Fed n rank s0 s1 l0 l1 [] h1 t0 t1 → IfSome (to_come h1 t1) StartsTooLong → IfSome t0 (λ bytes. IsSome (first_too_long (raw_lines bytes)))

@@ -1,9 +1,9 @@
 -- The lines of one file after another are on their way.
-use Rattle.std.proofs.Common.{◌≡◌, ◌≢◌, ℕ, ◌+◌, ◌<◌, ◌≤◌, Bool, true, false, cond, ltb, List, [], ◌∷◌, ◌++◌, Some, None, Option, IfSome, Result, Ok, Err, IsErrOf, length, map, set, get_or, refl, sym, ap, ◌∙◌, subst, inl, inr, arith, slice_get}
+use Rattle.std.proofs.Common.{◌≡◌, ℕ, ◌+◌, ◌<◌, ◌≤◌, cond, List, [], ◌++◌, Some, None, Option, IfSome, length, map, set, get_or, refl, sym, ap, ◌∙◌, subst, inl, inr, arith, slice_get}
 use Rattle.std.specs.Option.{option_map}
 use Rattle.std.proofs.lemmas.Bool.{cases_eq, cases_lt, eq-eqb, ne_eqb, lt-ltb, le-ltb}
 use Rattle.std.proofs.lemmas.List.{length-map, get_or_past}
-use Rattle.std.proofs.lemmas.Option.{slice_get-map, get_or_from_slice_get, slice_get_within}
+use Rattle.std.proofs.lemmas.Option.{slice_get-map, get_or_from_slice_get}
 use Rattle.comm_rank.specs.Links.{Links}
 use Rattle.comm_rank.specs.Runs.{State}
 use Rattle.comm_rank.proofs.Worlds.{slice_get-set_same, slice_get-set_other, slice_get-set_at}
@@ -34,9 +34,9 @@ with_other own rank other lines ne = ap (λ b. cond b (own other ++ lines) (own 
 told_at : {X : Type 0} (left : X → Told) (sources : List X) (bytes : List (List ℕ)) (k : ℕ) (item : X) → AreTold (map left sources) bytes → slice_get sources k ≡ Some item → (b : List ℕ) × (slice_get bytes k ≡ Some b) × (left item ≡ Some b)
 told_at left sources bytes k item told at =
     of (slice_get bytes k) refl (sym (slice_get-map left sources k ∙ ap (option_map left) at) ∙ ap (λ (w : List Told). slice_get w k) told ∙ slice_get-map Some bytes k) where
-  of : (o : Option (List ℕ)) → slice_get bytes k ≡ o → Some (left item) ≡ option_map Some (slice_get bytes k) → (b : List ℕ) × (slice_get bytes k ≡ Some b) × (left item ≡ Some b)
-  of None is e = absurd (let f = e ∙ ap (option_map Some) is in cc)
-  of (Some b) is e = let f = e ∙ ap (option_map Some) is in (b, is, cc)
+      of : (o : Option (List ℕ)) → slice_get bytes k ≡ o → Some (left item) ≡ option_map Some (slice_get bytes k) → (b : List ℕ) × (slice_get bytes k ≡ Some b) × (left item ≡ Some b)
+      of None is e = absurd (let f = e ∙ ap (option_map Some) is in cc)
+      of (Some b) is e = let f = e ∙ ap (option_map Some) is in (b, is, cc)
 
 if_told : (left : Told) (b : List ℕ) (P : List ℕ → Type 0) → left ≡ Some b → IfSome left P → P b
 if_told left b P e h = subst (λ (t : Told). IfSome t P) e h
@@ -56,9 +56,9 @@ sent_more left n k sources item s0 s1 s2 l0 l1 l2 so_far sent at bytes told star
           with_same (own_upto files k) k r sent.lines e ∙ ap (λ w. w ++ sent.lines) (own_above files k r (omega (arith, e))) ∙ lines ∙ sym mine
           ∙ ap (λ i. get_or files i []) (sym e) ∙ sym (own_below files (k + 1) r (omega (arith, e)))
       | inr ne ↦ with_other (own_upto files k) k r sent.lines ne ∙ elim (cases_lt r k) [
-          | inl lt ↦ own_below files k r lt ∙ sym (own_below files (k + 1) r (omega (arith, lt)))
-          | inr le ↦ own_above files k r le ∙ sym (own_above files (k + 1) r (omega (arith, le, ne)))
-        ]
+        | inl lt ↦ own_below files k r lt ∙ sym (own_below files (k + 1) r (omega (arith, lt)))
+        | inr le ↦ own_above files k r le ∙ sym (own_above files (k + 1) r (omega (arith, le, ne)))
+      ]
     ])
     (sent.carried (own_upto files k) (so_far bytes told start))
 
@@ -87,7 +87,7 @@ pub cause_at : {X : Type 0} (left : X → Told) (faults : X → ℕ) (start sour
     → OnTooLong (failed (Unit {0}) fault) (HasLongLine (left item)) → HasCause (map left start) (map faults (set sources k now)) (fault_at k fault)
 cause_at left faults start sources k item now FileRead at lt rose long =
     let is : get_or (map faults (set sources k now)) k 0 ≡ faults now =
-        get_or_from_slice_get (map faults (set sources k now)) k (faults now) 0 (slice_get-map faults (set sources k now) k ∙ ap (option_map faults) (slice_get-set_at sources k now lt)) in
+    get_or_from_slice_get (map faults (set sources k now)) k (faults now) 0 (slice_get-map faults (set sources k now) k ∙ ap (option_map faults) (slice_get-set_at sources k now lt)) in
     omega (arith, is, rose refl)
 cause_at left faults start sources k item now (FileTooLong line) at lt rose long = (left item, slice_get-map left start k ∙ ap (option_map left) at, long)
 cause_at left faults start sources k item now (FileFull at_limit) at lt rose long = tt

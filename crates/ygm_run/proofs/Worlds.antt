@@ -1,8 +1,8 @@
 -- What the calls on a world of ranks do, from what the calls on its parts ensure.
-use Rattle.std.proofs.Common.{◌≡◌, ℕ, ◌+◌, ◌<◌, ◌≤◌, ◌^◌, List, [], ◌∷◌, ◌++◌, Some, Result, Ok, Err, OnOk, IsErr, length, map, set, take, drop, suc, zero, add-one, get_or, replicate, refl, sym, ap, ◌∙◌, subst, inl, inr, arith, slice_get}
+use Rattle.std.proofs.Common.{◌≡◌, ℕ, ◌+◌, ◌<◌, ◌≤◌, ◌^◌, List, [], ◌∷◌, ◌++◌, Some, Result, Ok, Err, OnOk, IsErr, length, map, set, take, drop, suc, zero, add-one, get_or, refl, sym, ap, ◌∙◌, subst, inl, inr, arith, slice_get}
 use Rattle.std.specs.Option.{option_map}
 use Rattle.std.proofs.lemmas.Bool.{cases_lt, false≢true}
-use Rattle.std.proofs.lemmas.List.{append-nil, length-map, map-append}
+use Rattle.std.proofs.lemmas.List.{append-nil, map-append}
 use Rattle.std.proofs.lemmas.List.Concat.{flat_map-append}
 use Rattle.std.proofs.lemmas.Option.{slice_get-map, slice_get_read, get_or_from_slice_get}
 use Rattle.std.proofs.Math.Seq.{take-length}
@@ -31,8 +31,8 @@ inserted (Ok u) n rank comms old now links new line world lt fits is sent counte
     let at : slice_get comms rank ≡ Some old = slice_get_read comms n rank old (sym world.all) lt is in
     let who = world.each rank old at in
     let ch : ChangesLink rank (owner_of_key line n) links new (waiting links rank (owner_of_key line n) ++ add_letter (owner_of_key line n) rank line ∷ []) =
-        subst (λ i. ChangesLink i (owner_of_key line n) links new (waiting links i (owner_of_key line n) ++ add_letter (owner_of_key line n) i line ∷ [])) who.0
-        (subst (λ k. ChangesLink (rank_of old) (owner_of_key line k) links new (waiting links (rank_of old) (owner_of_key line k) ++ add_letter (owner_of_key line k) (rank_of old) line ∷ [])) who.1 sent) in
+    subst (λ i. ChangesLink i (owner_of_key line n) links new (waiting links i (owner_of_key line n) ++ add_letter (owner_of_key line n) i line ∷ [])) who.0
+    (subst (λ k. ChangesLink (rank_of old) (owner_of_key line k) links new (waiting links (rank_of old) (owner_of_key line k) ++ add_letter (owner_of_key line k) (rank_of old) line ∷ [])) who.1 sent) in
     let state_at : slice_get (states_of comms) rank ≡ Some (state_of old) = slice_get-map state_of comms rank ∙ ap (option_map state_of) at in
     let room : sent_count_of old < 2 ^ 56 = elim (cases_lt (sent_count_of old) (2 ^ 56)) [ inl below ↦ below | inr above ↦ absurd (false≢true (full above)) ] in
     subst (λ ss. Carried (with_line own rank line) n ss new) (sym (map-set state_of comms rank now))

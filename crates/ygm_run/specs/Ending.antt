@@ -1,6 +1,5 @@
 -- Facts about how a run ended.
 use Rattle.std.specs.Prelude.{ℕ, ⊤}
-use Rattle.ygm_run.specs.declared.status.LineWhy.{LineWhy}
 use Rattle.ygm_run.specs.declared.status.Status.{Status}
 use Rattle.ygm_run.specs.declared.status.Status.TheVariants.{Done, Usage, OpenFault, ReadFault, BadLine, WriteFault, NoMemory, CountFull}
 use Rattle.ygm_run.specs.declared.tally.JobFault.{JobFault}

@@ -1,5 +1,5 @@
 -- What the job tally reads from its sources, and why it has no text.
-use Rattle.std.specs.Prelude.{◌≡◌, ℕ, ◌<◌, List, [], Option, Some, IfSome, IsSome, map, slice_get, slice_index, slice_index_or, nat_lt, if◌then◌else◌}
+use Rattle.std.specs.Prelude.{◌≡◌, ℕ, ◌<◌, List, [], Some, IfSome, IsSome, map, slice_get, slice_index, slice_index_or, nat_lt, if◌then◌else◌}
 use Rattle.ygm_io.specs.Content.{Told}
 use Rattle.ygm_run.specs.declared.input.FileFault.{FileFault}
 use Rattle.ygm_run.specs.declared.input.FileFault.TheVariants.{Read as FileRead, TooLong as FileTooLong, CountFull as FileFull, NoMemory as FileNoMemory}
@@ -30,9 +30,13 @@ fault_at rank FileNoMemory = NoMemory
 abbrev pub HasLongLine : Told → Type 0
 HasLongLine left = IfSome left (λ bytes. IsSome (first_too_long (raw_lines bytes)))
 
+-- one of these sources has a line that is too long
+abbrev pub HasLongLineAt : List Told → ℕ → Type 0
+HasLongLineAt lefts rank = (left : Told) × (slice_get lefts rank ≡ Some left) × HasLongLine left
+
 -- The cause of a fault, by what the sources told before and by their counts of faults now.
 abbrev pub HasCause : List Told → List ℕ → JobFault → Type 0
 HasCause lefts faults (Read rank) = 0 < slice_index faults rank
-HasCause lefts faults (TooLong rank line) = (left : Told) × (slice_get lefts rank ≡ Some left) × HasLongLine left
+HasCause lefts faults (TooLong rank line) = HasLongLineAt lefts rank
 HasCause lefts faults (CountFull rank at) = Unit {0}
 HasCause lefts faults NoMemory = Unit {0}

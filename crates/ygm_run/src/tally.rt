@@ -50,11 +50,7 @@ impl FileFault {
 }
 
 // Sends the lines of each source, in the order of ranks.
-fn read_all<S: Source>(
-    alloc: Global,
-    world: &mut World,
-    sources: &mut [S],
-) -> Result<(), JobFault>
+fn read_all<S: Source>(alloc: Global, world: &mut World, sources: &mut [S]) -> Result<(), JobFault>
     requires all { length sources.old ≡ world.old.ranks }
     ensures sent { OnOk result ((bytes : List (List ℕ)) → AreTold (map S.left sources.old) bytes
         → Carried (λ _. []) world.old.ranks (states_of world.old.comms.items) world.old.lists

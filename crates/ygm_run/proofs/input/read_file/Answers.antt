@@ -1,9 +1,8 @@
-use Rattle.std.proofs.Common.{◌≡◌, ◌∙◌, ℕ, Bool, List, [], IfSome, IsSome, false, refl, ap, sym, subst, arith}
+use Rattle.std.proofs.Common.{◌≡◌, ◌∙◌, Bool, [], refl, ap, subst}
 use Rattle.std.proofs.lemmas.Bool.{false≢true}
 use Rattle.std.proofs.lemmas.Result.{err_from_is_err_and}
 use Rattle.comm_rank.specs.Rank.{states_of}
-use Rattle.ygm_run.specs.Fed.{Fed, OnTooLong}
-use Rattle.ygm_run.specs.Lines.{raw_lines, first_too_long}
+use Rattle.ygm_run.specs.Fed.{Fed}
 use Rattle.ygm_run.specs.Reading.{Reading}
 use Rattle.ygm_run.specs.Turns.{to_come}
 use Rattle.ygm_run.proofs.Feeding.{fed_nothing, fed_more, fed_too_long, too_long_by}

@@ -1,4 +1,4 @@
-use Rattle.std.proofs.Common.{◌≡◌, ◌+◌, ℕ, List, [], true, false, cond, map, get_or, length}
+use Rattle.std.proofs.Common.{◌≡◌, ◌+◌, [], true, false, cond, map, get_or}
 use Rattle.comm_rank.specs.Rank.{states_of, sent_count_of}
 use Rattle.ygm_io.specs.Content.{NothingLeft}
 use Rattle.ygm_run.specs.Fed.{Fed, turns_left}

@@ -1,4 +1,4 @@
-use Rattle.std.proofs.Common.{ℕ, List, ap, sym, subst}
+use Rattle.std.proofs.Common.{ℕ, List, subst}
 use Rattle.comm_rank.specs.Rank.{states_of}
 use Rattle.ygm_run.specs.Carried.{Carried, with_line}
 use Rattle.ygm_run.proofs.Feeding.{fed_line, fed_nothing}
@@ -11,7 +11,7 @@ returns-in_ok-add_line-in-Line-clause-fed g c =
     (rw c.in-Line.is at c.in_ok-line.ensures.line)
     (rw c.in-Line.is at c.in_ok-line.ensures.raw_line)
     (subst (λ (line : List ℕ). (own : ℕ → List (List ℕ)) → Carried own c.args.world.now.ranks (states_of c.args.world.now.comms.items) c.args.world.now.lists → Carried (with_line own c.args.rank line) c.args.world.now.ranks (states_of c.add_line.new.self.comms.items) c.add_line.new.self.lists)
-      same c.in_ok-add_line-in-Line.ensures.carried)
+    same c.in_ok-add_line-in-Line.ensures.carried)
 
 pub returns-in-More-clause-fed : goal.returns-in-More-clause-fed
 returns-in-More-clause-fed g c =

@@ -1,4 +1,4 @@
-use Rattle.std.proofs.Common.{◌≡◌, ◌+◌, ◌∷◌, [], ◌++◌, List, length, map, arith, subst, sym, ap, ◌∙◌, length-append}
+use Rattle.std.proofs.Common.{◌≡◌, ◌+◌, ◌∷◌, [], ◌++◌, List, length, subst, sym, ap, ◌∙◌, length-append}
 use Rattle.std.proofs.lemmas.List.{map-append}
 use Rattle.comm_rank.specs.declared.comm.Comm.{Comm}
 use Rattle.comm_rank.specs.Rank.{state_of, states_of}
@@ -17,5 +17,5 @@ loop-here-preserved c =
       count = ap length pushed ∙ length-append c.loop-here.comms.items (c.in-Ok.comm ∷ []) ∙ ap (λ k. k + 1) c.loop-here.invariant.count;
       fresh = subst (λ (comms : List (Comm Counts)). AreFresh (states_of comms)) (sym pushed)
           (subst AreFresh (sym (map-append state_of c.loop-here.comms.items (c.in-Ok.comm ∷ [])))
-            (fresh_more (states_of c.loop-here.comms.items) (state_of c.in-Ok.comm) c.loop-here.invariant.fresh (made.contents ∙ c.in_ok-new.ensures) made.sent));
+          (fresh_more (states_of c.loop-here.comms.items) (state_of c.in-Ok.comm) c.loop-here.invariant.fresh (made.contents ∙ c.in_ok-new.ensures) made.sent));
     }

@@ -1,5 +1,5 @@
-use Rattle.std.proofs.Common.{◌≡◌, vec_len, ℕ, Some, slice_get, length, map}
-use Rattle.comm_rank.specs.Rank.{states_of, rank_of, ranks_of, IsWorld}
+use Rattle.std.proofs.Common.{◌≡◌, length}
+use Rattle.comm_rank.specs.Rank.{states_of}
 use Rattle.ygm_run.specs.Carried.{AreFresh}
 use Rattle.ygm_run.proofs.Carrying.{AreFirst}
 use Rattle.ygm_run.proofs.world.fresh_ranks.Given as goal

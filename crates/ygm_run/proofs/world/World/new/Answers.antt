@@ -1,4 +1,4 @@
-use Rattle.std.proofs.Common.{length, ◌∙◌}
+use Rattle.std.proofs.Common.{◌∙◌}
 use Rattle.std.proofs.lemmas.List.{length-map}
 use Rattle.comm_rank.specs.Rank.{state_of, states_of}
 use Rattle.ygm_run.proofs.Carrying.{carried_none}

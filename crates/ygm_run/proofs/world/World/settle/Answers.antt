@@ -16,7 +16,7 @@ returns-clause-carried c =
     let same : length after ≡ length items = omega (arith, c.settle.auto.comms, ap length c.deref_mut.ensures.value) in
     let back = sym (written_back c.args.self.now.comms.len after items long same) in
     let settled : OnOk c.settle.result (Settled counting_apply c.args.caller (states_of items) (states_of after) c.args.self.now.lists c.settle.new.lists) =
-        subst (λ (xs : List (Comm Counts)). OnOk c.settle.result (Settled counting_apply c.args.caller (states_of xs) (states_of after) c.args.self.now.lists c.settle.new.lists)) c.deref_mut.ensures.value c.settle.ensures.settled in
+    subst (λ (xs : List (Comm Counts)). OnOk c.settle.result (Settled counting_apply c.args.caller (states_of xs) (states_of after) c.args.self.now.lists c.settle.new.lists)) c.deref_mut.ensures.value c.settle.ensures.settled in
     subst (λ (xs : List (Comm Counts)). OnOk c.settle.result ((own : ℕ → List (List ℕ)) → Carried own c.args.self.now.ranks (states_of items) c.args.self.now.lists → Carried own c.args.self.now.ranks (states_of xs) c.settle.new.lists)) back
     (settle_carried c.settle.result c.args.self.now.ranks c.args.caller (states_of items) (states_of after) c.args.self.now.lists c.settle.new.lists settled)
 
@@ -28,7 +28,7 @@ returns-clause-quiet c =
     let same : length after ≡ length items = omega (arith, c.settle.auto.comms, ap length c.deref_mut.ensures.value) in
     let back = sym (written_back c.args.self.now.comms.len after items long same) in
     let settled : OnOk c.settle.result (Settled counting_apply c.args.caller (states_of items) (states_of after) c.args.self.now.lists c.settle.new.lists) =
-        subst (λ (xs : List (Comm Counts)). OnOk c.settle.result (Settled counting_apply c.args.caller (states_of xs) (states_of after) c.args.self.now.lists c.settle.new.lists)) c.deref_mut.ensures.value c.settle.ensures.settled in
+    subst (λ (xs : List (Comm Counts)). OnOk c.settle.result (Settled counting_apply c.args.caller (states_of xs) (states_of after) c.args.self.now.lists c.settle.new.lists)) c.deref_mut.ensures.value c.settle.ensures.settled in
     let all : length (states_of items) ≡ c.args.self.now.lists.ranks = length-map items state_of ∙ c.args.self.now.one_each.all ∙ sym c.args.self.now.same_ranks in
     let caller : c.args.caller < c.args.self.now.lists.ranks = omega (arith, c.requires, c.args.self.now.same_ranks) in
     settle_quiet c.settle.result c.args.caller (states_of items) (states_of after) c.args.self.now.lists c.settle.new.lists settled all caller
@@ -41,7 +41,7 @@ returns-clause-stays c =
     let same : length after ≡ length items = omega (arith, c.settle.auto.comms, ap length c.deref_mut.ensures.value) in
     let back = sym (written_back c.args.self.now.comms.len after items long same) in
     let settled : OnOk c.settle.result (Settled counting_apply c.args.caller (states_of items) (states_of after) c.args.self.now.lists c.settle.new.lists) =
-        subst (λ (xs : List (Comm Counts)). OnOk c.settle.result (Settled counting_apply c.args.caller (states_of xs) (states_of after) c.args.self.now.lists c.settle.new.lists)) c.deref_mut.ensures.value c.settle.ensures.settled in
+    subst (λ (xs : List (Comm Counts)). OnOk c.settle.result (Settled counting_apply c.args.caller (states_of xs) (states_of after) c.args.self.now.lists c.settle.new.lists)) c.deref_mut.ensures.value c.settle.ensures.settled in
     let all : length (states_of items) ≡ c.args.self.now.lists.ranks = length-map items state_of ∙ c.args.self.now.one_each.all ∙ sym c.args.self.now.same_ranks in
     settle_stays c.settle.result c.args.self.now.ranks c.args.caller (states_of items) (states_of after) c.args.self.now.lists c.settle.new.lists settled all c.args.self.now.same_ranks
 
@@ -53,6 +53,6 @@ returns-clause-counted c =
     let same : length after ≡ length items = omega (arith, c.settle.auto.comms, ap length c.deref_mut.ensures.value) in
     let back = sym (written_back c.args.self.now.comms.len after items long same) in
     let settled : OnOk c.settle.result (Settled counting_apply c.args.caller (states_of items) (states_of after) c.args.self.now.lists c.settle.new.lists) =
-        subst (λ (xs : List (Comm Counts)). OnOk c.settle.result (Settled counting_apply c.args.caller (states_of xs) (states_of after) c.args.self.now.lists c.settle.new.lists)) c.deref_mut.ensures.value c.settle.ensures.settled in
+    subst (λ (xs : List (Comm Counts)). OnOk c.settle.result (Settled counting_apply c.args.caller (states_of xs) (states_of after) c.args.self.now.lists c.settle.new.lists)) c.deref_mut.ensures.value c.settle.ensures.settled in
     subst (λ (xs : List (Comm Counts)). OnOk c.settle.result (map sent_count_of xs ≡ map sent_count_of items)) back
     (settle_counted c.settle.result c.args.caller items after c.args.self.now.lists c.settle.new.lists settled)

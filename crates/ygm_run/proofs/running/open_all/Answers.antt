@@ -1,0 +1,32 @@
+use Rattle.std.proofs.Common.{◌≡◌, ◌<◌, ◌+◌, ◌∷◌, ◌++◌, [], Some, true, cond, length, map, take, slice_get, string_bytes, refl, ap, sym, ◌∙◌, arith, length-append}
+use Rattle.std.specs.Option.{option_map}
+use Rattle.std.specs.Result.{is_ok}
+use Rattle.std.proofs.lemmas.List.{map-append}
+use Rattle.std.proofs.lemmas.Option.{slice_get-map, slice_get_read}
+use Rattle.ygm_run.specs.Words.{texts_of}
+use Rattle.ygm_run.proofs.Worlds.{take_next}
+use Rattle.ygm_run.proofs.running.open_all.Goals as goal
+
+pub loop-file-preserved : goal.loop-file-preserved
+loop-file-preserved g c =
+    let k = c.loop-file.file in
+    let before = c.loop-file.invariant in
+    let old = c.loop-file.sources.items in
+    let names = c.args.names.now in
+    let left = g.F.Src.Source.left in
+    let content = g.F.Files.content c.args.files.now in
+    let ok : is_ok c.push.result ≡ true = c.if-is_err.ensures.negation in
+    let pushed : c.push.new.self.items ≡ old ++ c.in-Ok.source ∷ [] = c.push.ensures.items ∙ ap (λ b. cond b (old ++ c.in-Ok.source ∷ []) old) ok in
+    let lt : k < length names = omega (arith, c.loop-file-test.true) in
+    let at : slice_get names k ≡ Some c.index-names-file.result = slice_get_read names (length names) k c.index-names-file.result refl lt c.index-names-file.is in
+    let text = slice_get-map string_bytes names k ∙ ap (option_map string_bytes) at in
+    record {
+      opened =
+          ap (map left) pushed ∙ map-append left old (c.in-Ok.source ∷ [])
+          ∙ ap (λ w. w ++ left c.in-Ok.source ∷ []) before.opened
+          ∙ ap (λ x. map content (take k (texts_of names)) ++ x ∷ []) (c.in-Ok.ensures.bytes ∙ before.same _ ∙ ap content c.as_str.ensures.value)
+          ∙ sym (ap (map content) (take_next (texts_of names) k (string_bytes c.index-names-file.result) text) ∙ map-append content (take k (texts_of names)) (string_bytes c.index-names-file.result ∷ []));
+      count = ap length pushed ∙ length-append old (c.in-Ok.source ∷ []) ∙ ap (λ n. n + 1) before.count;
+      same = λ name. c.in-Ok.ensures.same name ∙ before.same name;
+      stands = c.in-Ok.ensures.stands ∙ before.stands;
+    }
