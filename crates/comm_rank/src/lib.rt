@@ -8,6 +8,8 @@ mod fault;
 mod handler;
 mod laws;
 mod lists;
+#[cfg(test)]
+mod tests;
 
 pub use barrier::settle;
 pub use comm::{Comm, MOST_LETTERS, NotMade};
