@@ -9,7 +9,9 @@ use std::test::*;
 
 // The tags of a letter that changes nothing else, of one that asks for an answer, and of an answer.
 const NOTE: u8 = 0;
+
 const ASK: u8 = 1;
+
 const ANSWER: u8 = 2;
 
 // Keeps the first byte of each letter's body, and answers one that asks by its body, to its sender.
@@ -31,8 +33,8 @@ impl Handler for Echo {
     ghost use Rattle.std.specs.Prelude.{[], ◌∷◌, ◌++◌, ◌&&◌, ◌==◌, nat_lt, if◌then◌else◌, slice_index_or, refl};
 
     ghost apply = { λ contents here ranks l. (
-        contents ++ slice_index_or l.body 0 0 ∷ [],
-        if (l.tag == 1) && (nat_lt l.from ranks) then record { to = l.from; tag = 2; body = l.body } ∷ [] else [],
+      contents ++ slice_index_or l.body 0 0 ∷ [],
+      if (l.tag == 1) && (nat_lt l.from ranks) then record { to = l.from; tag = 2; body = l.body } ∷ [] else [],
     ) };
 
     ghost start = { λ _. [] };
@@ -83,7 +85,11 @@ impl World {
         comms.push(rank(alloc, 0)?)?;
         comms.push(rank(alloc, 1)?)?;
         let lists = Lists::new(alloc, 2)?;
-        Ok(World { alloc, comms, lists })
+        Ok(World {
+            alloc,
+            comms,
+            lists,
+        })
     }
 
     fn send(&mut self, from: u32, to: u32, tag: u8, first: u8) -> Result<(), Fail>

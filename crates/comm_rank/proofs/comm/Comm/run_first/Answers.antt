@@ -1,4 +1,4 @@
-use Rattle.std.proofs.Common.{◌≡◌, ◌+◌, ◌<◌, ◌++◌, List, [], Result, Ok, Err, OnErr, ap, sym, ◌∙◌, refl, arith, length, map, subst}
+use Rattle.std.proofs.Common.{◌≡◌, ◌+◌, ◌<◌, List, Result, Ok, Err, OnErr, ap, sym, ◌∙◌, refl, arith, length, map, subst}
 use Rattle.msg_codec.specs.Letter.{letter_of}
 use Rattle.comm_rank.specs.declared.handler.Outbound.{Outbound}
 use Rattle.comm_rank.specs.Fold.{letter_by}
