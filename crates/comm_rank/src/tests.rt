@@ -2,7 +2,7 @@ ghost use Rattle.std.specs.Prelude.{◌≡◌, ◌<◌, IfOk};
 ghost use Rattle.comm_rank.specs.Rank.{rank_of, ranks_of, IsWorld};
 
 use super::*;
-use msg_codec::{Body, LetterRef};
+use msg_codec::{Body, Counter, LetterRef};
 use std::alloc::{AllocError, Global};
 use std::marker::Model;
 use std::test::*;
@@ -220,6 +220,10 @@ fn a_handler_takes_back_what_it_sent(rt: HostRuntime) -> Result<(), Fail> {
 fn faults_are_told_apart(rt: HostRuntime) -> Result<(), Fail> {
     let text = format!(in rt.alloc(); "{}", CommFault::from(AllocError))?;
     assert_eq!(rt; text.as_str(), "out of memory");
+    let at = Counter::new(0).raise(1).err().ok_or("1 is above 0")?;
+    let text = format!(in rt.alloc(); "{}", CommFault::from(at))?;
+    assert_eq!(rt; text.as_str(), "the rank is at its limit of letters");
+    assert_eq!(rt; MOST_LETTERS, 72_057_594_037_927_936);
     Ok(())
 }
 
