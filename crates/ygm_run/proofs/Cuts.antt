@@ -1,0 +1,68 @@
+-- Where the raw lines of bytes are cut.
+use Rattle.std.proofs.Common.{◌≡◌, ◌≢◌, ◌+◌, ◌<◌, ◌≤◌, ℕ, eqb, List, [], ◌∷◌, ◌++◌, length, false, cond, Some, refl, ap, ◌∙◌, arith, ⊎_elim}
+use Rattle.std.proofs.lemmas.List.Elements.{All-head, All-tail}
+use Rattle.std.proofs.lemmas.List.{append_assoc}
+use Rattle.std.proofs.lemmas.Bool.{lt-ltb}
+use Rattle.std.proofs.lemmas.Bool.Decides.{eqb_tells}
+use Rattle.std.specs.Option.{option_map}
+use Rattle.ygm_run.specs.Lines.{raw_lines, onto_first, LacksLf, StartsTooLong, first_too_long, max_line}
+use Rattle.ygm_run.specs.Pieces.{StartsWithLine}
+
+not_lf : (byte : ℕ) → byte ≢ 10 → eqb byte 10 ≡ false
+not_lf byte h = ⊎_elim (λ t. absurd (h t.1)) (λ f. f.0) (eqb_tells byte 10)
+
+-- a byte that is no LF goes onto the first line of the rest
+raw_lines-cons : (byte : ℕ) (bytes : List ℕ) → byte ≢ 10 → raw_lines (byte ∷ bytes) ≡ onto_first byte (raw_lines bytes)
+raw_lines-cons byte bytes h = ap (λ b. cond b ([] ∷ raw_lines bytes) (onto_first byte (raw_lines bytes))) (not_lf byte h)
+
+-- what stands before the first LF is the first line
+pub raw_lines-at_lf : (raw rest : List ℕ) → LacksLf raw → raw_lines (raw ++ 10 ∷ rest) ≡ raw ∷ raw_lines rest
+raw_lines-at_lf [] rest h = refl
+raw_lines-at_lf (byte ∷ raw) rest h =
+    raw_lines-cons byte (raw ++ 10 ∷ rest) (All-head (λ b. b ≢ 10) byte raw h)
+    ∙ ap (onto_first byte) (raw_lines-at_lf raw rest (All-tail (λ b. b ≢ 10) byte raw h))
+
+-- bytes with no LF are one line
+pub raw_lines-at_end : (raw : List ℕ) → LacksLf raw → 0 < length raw → raw_lines raw ≡ raw ∷ []
+raw_lines-at_end [] h n = absurd (omega arith)
+raw_lines-at_end (byte ∷ []) h n = raw_lines-cons byte [] (All-head (λ b. b ≢ 10) byte [] h)
+raw_lines-at_end (byte ∷ next ∷ raw) h n =
+    raw_lines-cons byte (next ∷ raw) (All-head (λ b. b ≢ 10) byte (next ∷ raw) h)
+    ∙ ap (onto_first byte) (raw_lines-at_end (next ∷ raw) (All-tail (λ b. b ≢ 10) byte (next ∷ raw) h) (omega arith))
+
+-- how many bytes the first line has
+first_len : List (List ℕ) → ℕ
+first_len [] = 0
+first_len (line ∷ lines) = length line
+
+first_len-onto : (byte : ℕ) (lines : List (List ℕ)) → first_len (onto_first byte lines) ≡ first_len lines + 1
+unfolding first_len
+first_len-onto byte [] = refl
+first_len-onto byte (line ∷ lines) = omega arith
+
+-- the first line has at least the bytes that stand before each LF
+first_len-front : (raw rest : List ℕ) → LacksLf raw → length raw ≤ first_len (raw_lines (raw ++ rest))
+first_len-front [] rest h = omega arith
+first_len-front (byte ∷ raw) rest h =
+    let e : first_len (raw_lines (byte ∷ raw ++ rest)) ≡ first_len (onto_first byte (raw_lines (raw ++ rest))) = ap first_len (raw_lines-cons byte (raw ++ rest) (All-head (λ b. b ≢ 10) byte raw h)) in
+    let more = first_len-onto byte (raw_lines (raw ++ rest)) in
+    let before : length raw ≤ first_len (raw_lines (raw ++ rest)) = first_len-front raw rest (All-tail (λ b. b ≢ 10) byte raw h) in
+    omega arith
+
+first_is_too_long : (lines : List (List ℕ)) → max_line < first_len lines → first_too_long lines ≡ Some 1
+unfolding first_len
+first_is_too_long [] h = absurd (omega arith)
+first_is_too_long (line ∷ lines) h =
+    ap (λ b. cond b (Some 1) (option_map (λ number. number + 1) (first_too_long lines))) (lt-ltb max_line (length line) h)
+
+pub starts_too_long : (raw rest : List ℕ) → LacksLf raw → max_line < length raw → StartsTooLong (raw ++ rest)
+starts_too_long raw rest h long =
+    let front = first_len-front raw rest h in
+    first_is_too_long (raw_lines (raw ++ rest)) (omega arith)
+
+-- the lines of bytes that start with a line, whatever follows
+pub raw_lines-of_line : (bytes text held rest : List ℕ) (line : StartsWithLine bytes text held) → raw_lines (bytes ++ rest) ≡ line.raw ∷ raw_lines (held ++ rest)
+raw_lines-of_line bytes text held rest line =
+    ap (λ b. raw_lines (b ++ rest)) line.whole
+    ∙ ap raw_lines (append_assoc line.raw (10 ∷ held) rest)
+    ∙ raw_lines-at_lf line.raw (held ++ rest) line.partial

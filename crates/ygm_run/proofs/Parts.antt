@@ -1,0 +1,98 @@
+-- The parts of the bytes that are held.
+use Rattle.std.proofs.Common.{◌≡◌, ◌≢◌, zero, suc, true, is_some, ◌+◌, ◌-◌, ◌<◌, ◌≤◌, ℕ, List, [], ◌∷◌, ◌++◌, length, length-append, take, drop, Option, None, Some, IfSome, IfNone, unwrap_or, refl, ap, subst, ◌∙◌, sym, arith}
+use Rattle.std.proofs.lemmas.List.{drop-take, drop-drop, append_assoc, length-take, length-take-le, take-append-drop}
+use Rattle.std.proofs.lemmas.List.Elements.{All-append, All-take}
+use Rattle.std.proofs.lemmas.Bool.{false≢true}
+use Rattle.std.specs.Prelude.{slice_range}
+use Rattle.ygm_run.specs.Lines.{LacksLf, StartsTooLong, text_of, max_line}
+use Rattle.ygm_run.specs.Pieces.{StartsWithLine}
+use Rattle.ygm_run.proofs.Cuts.{starts_too_long}
+
+-- what waits once n bytes more are given
+pub drop-slice_range : (n start end : ℕ) (buffer : List ℕ) → n ≤ end - start → drop n (slice_range buffer start end) ≡ slice_range buffer (start + n) end
+drop-slice_range n start end buffer h =
+    let e : end - start ≡ n + (end - (start + n)) = omega arith in
+    ap (λ m. drop n (take m (drop start buffer))) e
+    ∙ drop-take n (end - (start + n)) (drop start buffer)
+    ∙ ap (take (end - (start + n))) (drop-drop n start buffer)
+
+-- nothing waits where the ends are one
+pub slice_range-empty : (buffer : List ℕ) (start end : ℕ) → end ≤ start → slice_range buffer start end ≡ []
+slice_range-empty buffer start end h =
+    let e : end - start ≡ 0 = omega arith in
+    ap (λ n. take n (drop start buffer)) e
+
+-- from the front
+pub slice_range-front : (buffer : List ℕ) (start end : ℕ) → start ≡ 0 → slice_range buffer start end ≡ take end buffer
+slice_range-front buffer start end z =
+    let e : end - 0 ≡ end = omega arith in
+    ap (λ from. slice_range buffer from end) z ∙ ap (λ n. take n buffer) e
+
+-- no line ends before the first LF
+pub LacksLf-front : (found : Option ℕ) (piece : List ℕ) (count : ℕ) → IfSome found (λ end. LacksLf (take end piece)) → IfNone found (LacksLf piece) → LacksLf (take (unwrap_or found count) piece)
+LacksLf-front None piece count some none = All-take (λ b. b ≢ 10) count piece none
+LacksLf-front (Some end) piece count some none = some
+
+-- a piece with an LF makes the line whole that the carry began
+pub carried_line : (carry front rest text : List ℕ) → LacksLf carry → LacksLf front → length carry + length front ≤ max_line → text ≡ text_of (carry ++ front) → StartsWithLine (carry ++ (front ++ 10 ∷ rest)) text rest
+carried_line carry front rest text c f short is = record {
+  raw = carry ++ front;
+  whole = sym (append_assoc carry front (10 ∷ rest));
+  partial = All-append (λ b. b ≢ 10) carry front c f;
+  short = omega (arith, length-append carry front);
+  text_is = is;
+}
+
+-- a line that stands whole in the buffer, with nothing in the carry
+pub waiting_line : (carry buffer text : List ℕ) (start end n : ℕ) → carry ≡ [] → let waiting = slice_range buffer start end in n < length waiting → end ≤ max_line → LacksLf (take n waiting) → waiting ≡ take n waiting ++ 10 ∷ drop (n + 1) waiting → text ≡ text_of (take n waiting) → StartsWithLine (carry ++ waiting) text (carry ++ slice_range buffer (start + (n + 1)) end)
+waiting_line carry buffer text start end n none within bound partial parts is =
+    let waiting = slice_range buffer start end in
+    let most : length waiting ≤ end - start = omega (arith, length-take (end - start) (drop start buffer)) in
+    record {
+      raw = take n waiting;
+      whole = ap (λ c. c ++ waiting) none ∙ parts ∙ ap (λ rest. take n waiting ++ 10 ∷ rest) (drop-slice_range (n + 1) start end buffer (omega arith)) ∙ sym (ap (λ c. take n waiting ++ 10 ∷ (c ++ slice_range buffer (start + (n + 1)) end)) none);
+      partial = partial;
+      short = omega (arith, length-take n waiting);
+      text_is = is;
+    }
+
+-- the carry and what stands before the first LF are too long
+pub carried_too_long : (carry piece : List ℕ) (n : ℕ) → LacksLf carry → LacksLf (take n piece) → n ≤ length piece → max_line < length carry + n → (rest : List ℕ) → StartsTooLong ((carry ++ piece) ++ rest)
+carried_too_long carry piece n c f within long rest =
+    let front = take n piece in
+    let cut : (carry ++ piece) ++ rest ≡ (carry ++ front) ++ (drop n piece ++ rest) =
+    ap (λ p. (carry ++ p) ++ rest) (sym (take-append-drop n piece))
+    ∙ ap (λ b. b ++ rest) (sym (append_assoc carry front (drop n piece)))
+    ∙ append_assoc (carry ++ front) (drop n piece) rest in
+    subst StartsTooLong (sym cut)
+    (starts_too_long (carry ++ front) (drop n piece ++ rest) (All-append (λ b. b ≢ 10) carry front c f) (omega (arith, length-append carry front, length-take-le n piece within)))
+
+-- the same with the bytes written otherwise
+pub same_line : (bytes bytes' text held held' : List ℕ) → bytes ≡ bytes' → held ≡ held' → StartsWithLine bytes' text held' → StartsWithLine bytes text held
+same_line bytes bytes' text held held' b h line = record {
+  raw = line.raw;
+  whole = b ∙ line.whole ∙ ap (λ rest. line.raw ++ 10 ∷ rest) (sym h);
+  partial = line.partial;
+  short = line.short;
+  text_is = line.text_is;
+}
+
+-- what waits behind the first n bytes of a piece
+pub slice_range-behind : (n count : ℕ) (buffer : List ℕ) → n ≤ count → slice_range buffer n count ≡ drop n (take count buffer)
+slice_range-behind n count buffer h =
+    let e : n + (count - n) ≡ count = omega arith in
+    sym (drop-take n (count - n) buffer) ∙ ap (λ m. drop n (take m buffer)) e
+
+-- where there is a line's end, it is the length of what stands before it
+pub at_end : (P : ℕ → Type 0) (found : Option ℕ) (count : ℕ) → is_some found ≡ true → IfSome found P → P (unwrap_or found count)
+at_end P None count is h = absurd (false≢true is)
+at_end P (Some end) count is h = h
+
+pub front_within : (found : Option ℕ) (count most : ℕ) → count ≤ most → IfSome found (λ end. end < most) → unwrap_or found count ≤ most
+front_within None count most h some = h
+front_within (Some end) count most h some = omega arith
+
+-- the carry is empty where bytes wait
+pub nothing_carried : (carried start end : ℕ) → (0 < carried → start ≡ end) → start < end → carried ≡ 0
+nothing_carried zero start end h waits = refl
+nothing_carried (suc carried) start end h waits = absurd (let same : start ≡ end = h (omega arith) in omega arith)

@@ -1,0 +1,11 @@
+pub mod Carried
+pub mod Ending
+pub mod Fed
+pub mod Job
+pub mod Lines
+pub mod Notes
+pub mod Pieces
+pub mod Reading
+pub mod Tally
+pub mod Turns
+pub mod Words

@@ -1,0 +1,43 @@
+-- The bytes that were read and not given yet, and how they are kept.
+use Rattle.std.specs.Prelude.{◌≡◌, ℕ, ◌+◌, ◌<◌, ◌≤◌, List, ◌∷◌, ◌++◌, length, vec_len, vec_capacity, slice_range}
+use Rattle.ygm_run.specs.declared.pieces.Pieces.{Pieces}
+use Rattle.ygm_run.specs.declared.pieces.TheConstants.{READING_SPACE}
+use Rattle.ygm_run.specs.Lines.{max_line, text_of, LacksLf}
+
+-- the bytes of the piece that was read last, without those that were given
+abbrev pub waiting_in : Pieces → List ℕ
+waiting_in pieces = slice_range pieces.buffer.items pieces.start pieces.end
+
+-- the bytes that were read and not given
+abbrev pub held_in : Pieces → List ℕ
+held_in pieces = pieces.carry.items ++ waiting_in pieces
+
+-- what holds between two turns
+pub record AreOpen (pieces : Pieces) : Type 0 where
+  pub space : vec_len pieces.buffer ≡ READING_SPACE
+  pub order : pieces.start ≤ pieces.end
+  pub within : pieces.end ≤ READING_SPACE
+  pub partial : LacksLf pieces.carry.items
+  pub short : vec_len pieces.carry ≤ max_line
+  pub one_place : 0 < vec_len pieces.carry → pieces.start ≡ pieces.end
+
+-- all that is held lies in the carry, which has room for a whole piece behind it
+pub record AreGathered (pieces : Pieces) : Type 0 where
+  pub start : pieces.start ≡ 0
+  pub end : pieces.end ≡ 0
+  pub room : vec_len pieces.carry + READING_SPACE ≤ vec_capacity pieces.carry
+
+-- the bytes are a line of this text, its LF and the rest
+pub record StartsWithLine (bytes text rest : List ℕ) : Type 0 where
+  pub raw : List ℕ
+  pub whole : bytes ≡ raw ++ 10 ∷ rest
+  pub partial : LacksLf raw
+  pub short : length raw ≤ max_line
+  pub text_is : text ≡ text_of raw
+
+-- the bytes are the last line, which no LF ends, and this is its text
+pub record AreLastLine (bytes text : List ℕ) : Type 0 where
+  pub partial : LacksLf bytes
+  pub some : 0 < length bytes
+  pub short : length bytes ≤ max_line
+  pub text_is : text ≡ text_of bytes

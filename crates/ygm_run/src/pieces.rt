@@ -1,0 +1,186 @@
+//! The bytes that were read and not given yet.
+ghost use Rattle.std.specs.Prelude.{◌≡◌, ◌+◌, ◌<◌, ◌≤◌, ℕ, List, [], ◌∷◌, ◌++◌, length, take, drop, IfSome, IfNone, IfOk, OnOk, OnErr};
+ghost use Rattle.ygm_io.specs.Content.{TakenFrom, NothingLeft};
+ghost use Rattle.ygm_io.specs.Faults.{Rose};
+ghost use Rattle.ygm_run.specs.Lines.{LacksLf, StartsTooLong, text_of, max_line};
+ghost use Rattle.ygm_run.specs.Pieces.{AreGathered, AreLastLine, AreOpen, StartsWithLine, held_in};
+
+use memchr::memchr;
+use std::alloc::{AllocError, Global};
+use std::mem;
+use ygm_io::{Failed, Source};
+
+/// How many bytes one read asks for.
+pub const READING_SPACE: usize = 65_536;
+
+/// How many bytes a line has at most, a CR counted and its LF not.
+const MAX_LINE: usize = 1_000_000;
+
+/// The present line has more bytes than a line may have.
+pub struct TooLong;
+
+/// The bytes that were read and not given yet: those of the present line from earlier pieces, and the
+/// rest of the last piece. A byte is searched for an LF once.
+#[derive(Debug, Drop)]
+pub struct Pieces {
+    alloc: Global,
+    /// What a source reads into; the bytes from `start` to `end` wait to be given.
+    pub buffer: Vec<u8>,
+    pub start: usize,
+    pub end: usize,
+    /// The bytes of the present line from earlier pieces, which hold no LF.
+    pub carry: Vec<u8>,
+}
+
+impl Pieces {
+    pub fn new(alloc: Global) -> Result<Pieces, AllocError>
+        ensures open { IfOk result (λ pieces. AreOpen pieces) }
+        ensures empty { IfOk result (λ pieces. held_in pieces ≡ []) }
+    {
+        Ok(Pieces {
+            alloc,
+            buffer: vec![in alloc; 0; READING_SPACE]?,
+            start: 0,
+            end: 0,
+            carry: Vec::new(alloc),
+        })
+    }
+
+    /// The text of the first line, where the buffer holds it whole. It is copied before anything changes.
+    pub fn whole_line(&mut self) -> Result<Option<Vec<u8>>, AllocError>
+        requires { AreOpen self.old }
+        ensures open { OnOk result (AreOpen self.new) }
+        ensures line { IfOk result (λ found. IfSome found (λ text.
+            StartsWithLine (held_in self.old) text.items (held_in self.new))) }
+        ensures bound { IfOk result (λ found. IfSome found (λ text. length (held_in self.new) ≤ READING_SPACE)) }
+        ensures none { IfOk result (λ found. IfNone found (LacksLf (held_in self.old))) }
+        ensures stays { IfOk result (λ found. IfNone found (self.new ≡ self.old)) }
+        ensures err { OnErr result (self.new ≡ self.old) }
+    {
+        let waiting = &self.buffer[self.start..self.end];
+        let Some(length) = line_end(waiting) else {
+            return Ok(None);
+        };
+        let line = &waiting[..length];
+        let text = Vec::from_slice(self.alloc, &line[..text_len(line)])?;
+        self.start += length + 1;
+        Ok(Some(text))
+    }
+
+    /// Moves what waits in the buffer to the carry, and takes the room for a whole piece behind it.
+    pub fn gather(&mut self) -> Result<(), AllocError>
+        requires open { AreOpen self.old }
+        requires partial { LacksLf (held_in self.old) }
+        ensures open { AreOpen self.new }
+        ensures same { held_in self.new ≡ held_in self.old }
+        ensures gathered { OnOk result (AreGathered self.new) }
+    {
+        let waiting = &self.buffer[self.start..self.end];
+        self.carry.reserve(waiting.len() + READING_SPACE)?;
+        self.carry.extend_from_slice(waiting)?;
+        self.start = 0;
+        self.end = 0;
+        Ok(())
+    }
+
+    /// Reads a piece into the buffer.
+    pub fn read<S: Source>(&mut self, source: &mut S) -> Result<usize, Failed>
+        requires open { AreOpen self.old }
+        requires gathered { AreGathered self.old }
+        ensures open { AreOpen self.new }
+        ensures gathered { AreGathered self.new }
+        ensures same { held_in self.new ≡ held_in self.old }
+        ensures within { IfOk result (λ count. count ≤ READING_SPACE) }
+        ensures taken { IfOk result (λ count.
+            TakenFrom (take count self.new.buffer.items) (S.left source.old) (S.left source.new)) }
+        ensures end { IfOk result (λ count. count ≡ 0 → NothingLeft (S.left source.old)) }
+        ensures stands { OnOk result (S.faults source.new ≡ S.faults source.old) }
+        ensures cause { OnErr result (Rose (S.faults source.old) (S.faults source.new)) }
+        ensures unchanged { OnErr result (S.left source.new ≡ S.left source.old) }
+        ensures never_falls { S.faults source.old ≤ S.faults source.new }
+    {
+        source.read(&mut self.buffer)
+    }
+
+    /// The text of the last line, which no LF ends, where there is one.
+    pub fn last_line(&mut self) -> Option<Vec<u8>>
+        requires open { AreOpen self.old }
+        requires gathered { AreGathered self.old }
+        ensures open { AreOpen self.new }
+        ensures line { IfSome result (λ text. AreLastLine (held_in self.old) text.items) }
+        ensures none { IfNone result (held_in self.old ≡ []) }
+        ensures nothing_left { held_in self.new ≡ [] }
+    {
+        if self.carry.is_empty() {
+            return None;
+        }
+        Some(self.take_carry())
+    }
+
+    /// Takes the piece that was read, and answers the text of the line that it made whole, if it did.
+    /// No memory is taken: the line gets the carry itself.
+    pub fn take_piece(&mut self, count: usize) -> Result<Option<Vec<u8>>, TooLong>
+        requires open { AreOpen self.old }
+        requires gathered { AreGathered self.old }
+        requires within { count ≤ READING_SPACE }
+        ensures open { OnOk result (AreOpen self.new) }
+        ensures line { IfOk result (λ found. IfSome found (λ text.
+            StartsWithLine (held_in self.old ++ take count self.old.buffer.items) text.items (held_in self.new))) }
+        ensures bound { IfOk result (λ found. IfSome found (λ text. length (held_in self.new) ≤ READING_SPACE)) }
+        ensures none { IfOk result (λ found. IfNone found
+            (held_in self.new ≡ held_in self.old ++ take count self.old.buffer.items)) }
+        ensures partial { IfOk result (λ found. IfNone found (LacksLf (held_in self.new))) }
+        ensures short { IfOk result (λ found. IfNone found (length (held_in self.new) ≤ max_line)) }
+        ensures err { OnErr result (held_in self.new ≡ held_in self.old ++ take count self.old.buffer.items) }
+        ensures too_long { OnErr result ((rest : List ℕ) → StartsTooLong (held_in self.new ++ rest)) }
+    {
+        let piece = &self.buffer[..count];
+        let found = line_end(piece);
+        let length = found.unwrap_or(count);
+        if self.carry.len() + length > MAX_LINE {
+            self.end = count;
+            return Err(TooLong);
+        }
+        self.carry.extend_from_slice(&piece[..length]).unwrap();
+        if found.is_none() {
+            return Ok(None);
+        }
+        self.start = length + 1;
+        self.end = count;
+        Ok(Some(self.take_carry()))
+    }
+
+    /// The carry without a CR at its end. An empty one stands in its place.
+    fn take_carry(&mut self) -> Vec<u8>
+        ensures text { result.items ≡ text_of self.old.carry.items }
+        ensures taken { self.new ≡ record self.old { carry = self.new.carry } }
+        ensures empty { self.new.carry.items ≡ [] }
+    {
+        let mut text = mem::replace(&mut self.carry, Vec::new(self.alloc));
+        let length = text_len(&text);
+        text.truncate(length);
+        text
+    }
+}
+
+/// Where the first LF stands.
+fn line_end(bytes: &[u8]) -> Option<usize>
+    ensures within { IfSome result (λ end. end < length bytes.now) }
+    ensures partial { IfSome result (λ end. LacksLf (take end bytes.now)) }
+    ensures parts { IfSome result (λ end. bytes.now ≡ take end bytes.now ++ 10 ∷ drop (end + 1) bytes.now) }
+    ensures none { IfNone result (LacksLf bytes.now) }
+{
+    memchr(b'\n', bytes)
+}
+
+/// How many bytes of a line are its text: all but a CR at its end.
+fn text_len(line: &[u8]) -> usize
+    ensures within { result ≤ length line.now }
+    ensures text { take result line.now ≡ text_of line.now }
+{
+    if line.last().copied() == Some(b'\r') {
+        line.len() - 1
+    } else {
+        line.len()
+    }
+}
