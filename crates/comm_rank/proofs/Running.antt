@@ -1,9 +1,9 @@
 -- One rank sends letters, and letters run there, one after another.
-use Rattle.std.proofs.Common.{◌≡◌, ◌≢◌, ℕ, ◌+◌, ◌<◌, ◌≤◌, Bool, true, false, cond, List, [], ◌∷◌, ◌++◌, Some, None, length, drop, take, suc, zero, add-one, map, refl, sym, ap, ◌∙◌, subst, inl, inr, arith, add_assoc, eqb, slice_get, append_assoc, length-append}
+use Rattle.std.proofs.Common.{◌≡◌, ℕ, ◌+◌, ◌<◌, ◌≤◌, Bool, true, false, cond, List, [], ◌∷◌, ◌++◌, Some, length, drop, take, suc, zero, add-one, map, refl, sym, ap, ◌∙◌, subst, inl, inr, arith, eqb, slice_get, append_assoc, length-append}
 use Rattle.std.proofs.lemmas.List.{append-nil, length-map, length-take-le}
 use Rattle.std.proofs.lemmas.List.Elements.{filter-append}
 use Rattle.std.proofs.lemmas.Bool.{eq-eqb, ne_eqb, cases_eq}
-use Rattle.std.specs.List.{AllByRecursion, filter}
+use Rattle.std.specs.List.{AllByRecursion}
 use Rattle.msg_codec.specs.declared.letter.Letter.{Letter}
 use Rattle.comm_rank.specs.Fold.{Applies, letter_by, fold_from, handed_from, letters_to, letters_from}
 use Rattle.comm_rank.specs.Links.{Links, waiting, ChangesLink}
@@ -194,6 +194,15 @@ SentHere-next here l0 l1 l2 ys k l so_far is sender ch =
     let one : ChangesLink here l.to l1 l2 (waiting l1 here l.to ++ l ∷ []) = subst (λ h. ChangesLink h l.to l1 l2 (waiting l1 h l.to ++ l ∷ [])) sender ch in
     subst (SentHere here l0 l2) (sym (ap (λ i. take i ys) (add-one k) ∙ take_next ys k l is))
     (SentHere-trans here l0 l1 l2 (take k ys) (l ∷ []) so_far (SentHere-one here l.to l1 l2 l refl one))
+
+-- what a handler gave, where nothing was given before
+pub given_is : {C : Type 0} (apply : Applies C) (here n m : ℕ) (c : C) (l : Letter) (old new : List Outbound) → n ≡ m → old ≡ [] → new ≡ old ++ (apply c here n l).1 → new ≡ (apply c here m l).1
+given_is apply here n m c l old new same none is =
+    is ∙ ap (λ (w : List Outbound). w ++ (apply c here n l).1) none ∙ ap (λ k. (apply c here k l).1) same
+
+-- what a handler made of its contents
+pub made_is : {C : Type 0} (apply : Applies C) (here n m : ℕ) (c new : C) (l : Letter) → n ≡ m → new ≡ (apply c here n l).0 → new ≡ (apply c here m l).0
+made_is apply here n m c new l same is = is ∙ ap (λ k. (apply c here k l).0) same
 
 -- a letter's handler refused it, and nothing changed
 pub StoppedHere-refused : {C : Type 0} (apply : Applies C) (here from : ℕ) (before after : State C) (links : Links) (l : Letter) → slice_get (waiting links from here) 0 ≡ Some l → after.contents ≡ before.contents → after.sent ≡ before.sent → StoppedHere apply here before after links links

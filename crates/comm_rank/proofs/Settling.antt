@@ -1,15 +1,15 @@
 -- Links are run one after another, and ranks one after another.
-use Rattle.std.proofs.Common.{◌≡◌, ◌≢◌, ℕ, ◌+◌, ◌-◌, ◌*◌, ◌<◌, ◌≤◌, Bool, true, false, cond, List, [], ◌∷◌, ◌++◌, Some, None, Option, length, drop, take, suc, zero, set, get_or, map, refl, sym, ap, ◌∙◌, subst, inl, inr, arith, eqb, slice_get, Result, Ok, Err, OnErr, append_assoc, length-append, length-set}
+use Rattle.std.proofs.Common.{◌≡◌, ℕ, ◌+◌, ◌<◌, ◌≤◌, cond, List, [], ◌∷◌, ◌++◌, length, take, get_or, refl, sym, ap, ◌∙◌, subst, inl, inr, arith, Result, Ok, Err, OnErr, length-append}
 use Rattle.std.proofs.lemmas.List.{append-nil, take-append-le}
 use Rattle.std.proofs.Math.Seq.{take-append_seam}
 use Rattle.std.proofs.lemmas.Bool.{eq-eqb, ne_eqb, cases_eq}
-use Rattle.std.specs.List.{AllByRecursion, filter}
+use Rattle.std.specs.List.{AllByRecursion}
 use Rattle.msg_codec.specs.declared.letter.Letter.{Letter}
-use Rattle.comm_rank.specs.Fold.{Applies, letter_by, fold_from, handed_from, letters_to, letters_from}
+use Rattle.comm_rank.specs.Fold.{Applies, handed_from, letters_to, letters_from}
 use Rattle.comm_rank.specs.Links.{Links, waiting, place}
-use Rattle.comm_rank.specs.Runs.{State, only_at, SentHere, RanHere, CameTo, StoppedHere, Runs, Settled, StoppedAt, Refused}
+use Rattle.comm_rank.specs.Runs.{State, only_at, RanHere, StoppedHere, Refused}
 use Rattle.comm_rank.proofs.Places.{All-put}
-use Rattle.comm_rank.proofs.Running.{only_at-nil, only_at-append, only_at-same, only_at-other, letters_from-append, letters_to-append, RanHere-none, RanHere-trans}
+use Rattle.comm_rank.proofs.Running.{only_at-nil, only_at-same, letters_from-append, RanHere-none, RanHere-trans}
 
 pub on_err : {A E : Type 0} (r : Result A E) (P : Type 0) → P → OnErr r P
 on_err (Ok a) P p = tt

@@ -1,5 +1,5 @@
 -- Lists of lists that have one element each.
-use Rattle.std.proofs.Common.{◌≡◌, ℕ, ◌+◌, ◌<◌, List, [], ◌∷◌, ◌++◌, length, Some, None, slice_get, drop, refl, ap, arith, length-append, sym, ◌∙◌}
+use Rattle.std.proofs.Common.{◌≡◌, List, [], ◌∷◌, length, Some, slice_get, drop, refl, ap, arith, length-append, ◌∙◌}
 use Rattle.std.specs.List.{flat_map, AllByRecursion}
 
 abbrev pub Singles : {X : Type 0} → List (List X) → Type 0

@@ -1,20 +1,20 @@
 -- Ranks run one after another, each what is due.
-use Rattle.std.proofs.Common.{◌≡◌, ◌≢◌, ℕ, ◌+◌, ◌*◌, ◌<◌, ◌≤◌, Bool, true, false, cond, List, [], ◌∷◌, ◌++◌, Some, None, Option, length, take, suc, zero, set, get_or, map, refl, sym, ap, ◌∙◌, subst, inl, inr, arith, slice_get, append_assoc, length-append, length-set}
-use Rattle.std.proofs.lemmas.List.{append-nil, length-map}
+use Rattle.std.proofs.Common.{◌≡◌, ℕ, ◌+◌, ◌<◌, ◌≤◌, List, [], ◌∷◌, ◌++◌, Some, length, take, suc, zero, set, get_or, map, refl, sym, ap, ◌∙◌, subst, inl, inr, arith, slice_get, append_assoc, length-append, length-set}
+use Rattle.std.proofs.lemmas.List.{append-nil}
 use Rattle.std.proofs.Math.Seq.{take-append_seam}
 use Rattle.std.proofs.lemmas.Bool.{cases_eq}
 use Rattle.std.specs.List.{AllByRecursion}
 use Rattle.msg_codec.specs.declared.letter.Letter.{Letter}
 use Rattle.comm_rank.specs.Fold.{Applies, fold_from, handed_from, letters_to, letters_from}
-use Rattle.comm_rank.specs.Links.{Links, waiting, place}
-use Rattle.comm_rank.specs.Runs.{State, only_at, RanHere, CameTo, StoppedHere, Runs, Settled, StoppedAt, Refused, SentHere}
+use Rattle.comm_rank.specs.Links.{Links, RanOrWaits, waiting, place}
+use Rattle.comm_rank.specs.Runs.{State, only_at, RanHere, CameTo, StoppedHere, Runs, Settled, StoppedAt, Refused}
 use Rattle.comm_rank.proofs.Places.{All-put}
 use Rattle.comm_rank.specs.declared.comm.Comm.{Comm}
 use Rattle.comm_rank.specs.declared.fault.CommFault.{CommFault}
 use Rattle.comm_rank.specs.declared.fault.CommFault.TheVariants.{CountFull, NoMemory}
 use Rattle.comm_rank.specs.Fault.{IsFullAt, IsFullSomewhere}
 use Rattle.comm_rank.specs.Rank.{rank_of, ranks_of, IsSameRank, IsWorld}
-use Rattle.comm_rank.proofs.Running.{SentHere-none, only_at-nil, only_at-append, only_at-same, only_at-other, letters_from-append, letters_to-append, fold-append, handed-append}
+use Rattle.comm_rank.proofs.Running.{SentHere-none, only_at-same, only_at-other, letters_from-append, letters_to-append, fold-append, handed-append}
 
 -- elements by their places
 
@@ -272,3 +272,14 @@ world_with {H} comms n k x y world at same = record {
     | inr ne ↦ world.each r c (sym (slice_get-set_other comms k r y ne) ∙ is)
   ];
 }
+
+-- histories
+
+pub ran_or_waits : {C : Type 0} (apply : Applies C) (before after : List (State C)) (old new : Links) (more : ℕ → List Letter) (from to : ℕ) (state : State C) (sent ran : List Letter) → Runs apply before after old new more → from < old.ranks → to < old.ranks → slice_get before from ≡ Some state → RanOrWaits old from to sent ran → RanOrWaits new from to (sent ++ letters_to to (handed_from apply from old.ranks state.contents (more from))) (ran ++ letters_from from (more to))
+ran_or_waits apply before after old new more from to state sent ran runs f t at so_far =
+    let given = letters_to to (handed_from apply from old.ranks state.contents (more from)) in
+    let now = letters_from from (more to) in
+    ap (λ w. w ++ given) so_far
+    ∙ append_assoc ran (waiting old from to) given
+    ∙ ap (λ w. ran ++ w) (runs.carried from to state f t at)
+    ∙ sym (append_assoc ran now (waiting new from to))

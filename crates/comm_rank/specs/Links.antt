@@ -1,5 +1,5 @@
 -- The links between ranks: for each pair, the letters that were sent over it and haven't run, in order.
-use Rattle.std.specs.Prelude.{◌≡◌, ℕ, ◌+◌, ◌*◌, ◌<◌, List, [], length, slice_index_or}
+use Rattle.std.specs.Prelude.{◌≡◌, ℕ, ◌+◌, ◌*◌, ◌<◌, List, [], ◌++◌, length, slice_index_or}
 use Rattle.std.specs.List.{AllByRecursion}
 use Rattle.msg_codec.specs.declared.letter.Letter.{Letter}
 
@@ -15,6 +15,10 @@ place ranks from to = from * ranks + to
 -- the letters that wait in the link from one rank to another
 abbrev pub waiting : Links → ℕ → ℕ → List Letter
 waiting links from to = slice_index_or links.lists (place links.ranks from to) []
+
+-- what was sent from one rank to another is what ran of it, in order, and then what waits
+abbrev pub RanOrWaits : Links → ℕ → ℕ → List Letter → List Letter → Type 0
+RanOrWaits links from to sent ran = sent ≡ ran ++ waiting links from to
 
 -- other letters wait in that link now, and the other links stand
 pub record ChangesLink (from to : ℕ) (old new : Links) (letters : List Letter) : Type 0 where

@@ -62,7 +62,8 @@ fn run_due<H: Handler>(
 
 /// The weak barrier of one rank: afterwards every letter that `caller` sent before has run, each once and
 /// in order for each destination. It runs of each link as many letters as waited there when it began, rank
-/// by rank, and says nothing of letters that handlers send meanwhile.
+/// by rank, and of one rank's letters those of sender 0 first; what handlers send meanwhile waits for a later
+/// barrier. It takes memory for the number of letters of each link.
 ///
 /// After a refusal each letter that was sent has run or waits in its link in order; of the one whose run
 /// was refused, the handler may have run and sent the first of what it gave, while it still waits.

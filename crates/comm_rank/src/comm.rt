@@ -11,10 +11,11 @@ use crate::{CommFault, Handler, Lists, Outgoing};
 use msg_codec::{Batch, Body, Counter, LetterRef};
 use std::alloc::{AllocError, Global};
 
-/// The greatest number of letters that a rank sends.
+/// The greatest number of letters that a rank sends, its handler's among them, in all its time.
 pub const MOST_LETTERS: u64 = 1 << 56;
 
-/// One rank of a world: its handler, and what it has sent.
+/// One rank of a world: its handler, and how many letters it has sent. The letters themselves wait in the
+/// links of the world, `Lists`, which each call is given.
 #[derive(Drop)]
 pub struct Comm<H> {
     alloc: Global,
@@ -85,7 +86,8 @@ impl<H: Handler> Comm<H> {
     ghost use Rattle.comm_rank.specs.Rank.{rank_of, ranks_of, contents_of, sent_count_of, state_of, IsSameRank};
     ghost use Rattle.comm_rank.specs.Runs.{RanHere, StoppedHere};
 
-    /// A rank that has sent nothing yet.
+    /// A rank that has sent nothing yet: number `here` of `ranks`, with a handler that keeps what it starts
+    /// with. It takes memory from `alloc` as it sends and as letters run.
     pub fn new(alloc: Global, ranks: u32, here: u32, handler: H) -> Result<Comm<H>, NotMade<H>>
         requires below { here < ranks }
         requires fresh { H.start handler ≡ handler }
@@ -105,8 +107,9 @@ impl<H: Handler> Comm<H> {
         })
     }
 
-    /// Sends a letter to a rank: alone in a batch, it goes behind what waits in that link. After a
-    /// refusal nothing has changed.
+    /// Sends a letter to a rank, itself perhaps: alone in a batch, it goes behind what waits in that link,
+    /// and runs at a later barrier. It is refused where the rank is at its limit of letters or memory is
+    /// wanting: then nothing has changed, and the body is lost.
     pub fn send(&mut self, lists: &mut Lists, to: u32, tag: u8, body: Body) -> Result<(), CommFault>
         requires destination { to < ranks_of self.old }
         requires data { tag < 240 }
@@ -137,7 +140,7 @@ impl<H: Handler> Comm<H> {
         self.ranks
     }
 
-    /// Its number.
+    /// Its number, from 0.
     pub fn here(&self) -> u32
         ensures value { result ≡ rank_of self.now }
         ensures below { result < ranks_of self.now }
@@ -152,7 +155,7 @@ impl<H: Handler> Comm<H> {
         &self.handler
     }
 
-    /// The number of letters that it has sent.
+    /// The number of letters that it has sent, by `send` and by its handler, whether they ran or still wait.
     pub fn sent_count(&self) -> u64
         ensures value { result ≡ sent_count_of self.now }
         ensures bound { result ≤ 2 ^ 56 }

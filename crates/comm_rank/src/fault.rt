@@ -9,9 +9,11 @@ use thiserror::Error;
 /// Why a letter wasn't sent, or didn't run.
 #[derive(Clone, Copy, Debug, PartialEq, Eq, Error)]
 pub enum CommFault {
-    /// The rank has sent as many letters as it may.
+    /// The rank has sent as many letters as it may, `MOST_LETTERS`. It stays so: each later send is refused
+    /// too.
     #[error("the rank is at its limit of letters")]
     CountFull(AtLimit),
+    /// Memory was wanting. What the call promises of a refusal holds, and it may be tried again.
     #[error("out of memory")]
     NoMemory,
 }

@@ -6,7 +6,8 @@ use msg_codec::{Body, LetterRef};
 use std::alloc::{AllocError, Global};
 use std::marker::Model;
 
-/// A letter that a handler sends, before its sender is put on it.
+/// A letter that a handler sends, before its sender is put on it: the rank that it goes to, the tag that
+/// says what its body is, below 240, and the body.
 #[derive(Debug, Drop)]
 pub struct Outbound {
     pub to: u32,
@@ -14,7 +15,8 @@ pub struct Outbound {
     pub body: Body,
 }
 
-/// The letters that a handler sends while it runs one, in order.
+/// The letters that a handler sends while it runs one, in order. They are kept here and go into the links
+/// once the handler is done, so that a refusal can take them back.
 #[derive(Drop)]
 pub struct Outgoing {
     ranks: u32,
@@ -37,7 +39,7 @@ impl Outgoing {
     ghost use Rattle.msg_codec.specs.Letter.{letter_of};
     ghost use Rattle.comm_rank.specs.Fold.{letter_by};
 
-    /// No letters, in a world of so many ranks.
+    /// No letters, in a world of so many ranks. It takes memory from `alloc` as letters are sent.
     pub fn new(alloc: Global, ranks: u32) -> Outgoing
         ensures ranks { result.ranks ≡ ranks }
         ensures none { result.letters ≡ [] }
@@ -48,7 +50,8 @@ impl Outgoing {
         }
     }
 
-    /// Sends a letter. After a refusal nothing was sent.
+    /// Sends a letter, to be put into its link once the handler is done. The sender may be the destination.
+    /// It is refused where memory is wanting: then nothing was sent, and the body is lost.
     pub fn send(&mut self, to: u32, tag: u8, body: Body) -> Result<(), AllocError>
         requires destination { to < self.old.ranks }
         requires data { tag < 240 }
@@ -100,7 +103,9 @@ impl Outgoing {
     }
 }
 
-/// What a rank keeps, and what it does with each letter that reaches it.
+/// What a rank keeps, and what it does with each letter that reaches it. That rests on the letter, on what
+/// is kept, and on the rank's number and the number of ranks alone, so what a rank becomes is a fold over the
+/// letters that ran there.
 pub trait Handler: Drop {
     ghost use Rattle.comm_rank.specs.declared.handler.Outbound.{Outbound as Sent};
     ghost use Rattle.msg_codec.specs.Letter.{letter_of};
@@ -112,7 +117,9 @@ pub trait Handler: Drop {
     ghost start: { Self → Self };
 
     /// Runs a letter. A letter with a tag that isn't the handler's own, or with a body that spells
-    /// nothing, changes nothing and sends nothing. After a refusal contents and `out` are as they were.
+    /// nothing, changes nothing and sends nothing. Letters may stand in `out` already, which stay in front.
+    /// It is refused where memory is wanting: then contents and `out` are as they were, and the letter, which
+    /// still waits, may be run again.
     fn run(
         &mut self,
         here: u32,

@@ -79,7 +79,8 @@ impl Link {
     }
 }
 
-/// The links between all pairs of ranks.
+/// The links between all pairs of ranks, each rank's to itself among them. A letter waits in the link from
+/// its sender to its destination until it runs.
 #[derive(Drop)]
 pub struct Lists {
     ranks: u32,
@@ -112,7 +113,8 @@ impl Lists {
     ghost use Rattle.std.specs.Prelude.{map, replicate, Some};
     ghost use Rattle.comm_rank.specs.Links.{waiting, ChangesLink, IsBetween};
 
-    /// Links for so many ranks, all empty.
+    /// Links for so many ranks, all empty. It takes memory for the square of that number of links now, and
+    /// for letters as they are put.
     pub fn new(alloc: Global, ranks: u32) -> Result<Lists, AllocError>
         ensures ranks { IfOk result (λ lists. lists.ranks ≡ ranks) }
         ensures empty { IfOk result (λ lists. lists.lists ≡ replicate (ranks * ranks) []) }
@@ -131,7 +133,7 @@ impl Lists {
         self.ranks
     }
 
-    /// The number of letters that wait in a link.
+    /// The number of letters that wait in a link: sent, and not run yet.
     pub fn waiting(&self, from: u32, to: u32) -> usize
         requires sender { from < self.now.ranks }
         requires destination { to < self.now.ranks }

@@ -1,4 +1,4 @@
-use Rattle.std.proofs.Common.{◌≡◌, ◌<◌, List, refl, ap, sym, ◌∙◌, subst, arith, get_or}
+use Rattle.std.proofs.Common.{◌≡◌, ◌<◌, refl, ap, sym, ◌∙◌, subst, arith, get_or}
 use Rattle.comm_rank.specs.Links.{place}
 use Rattle.comm_rank.specs.Rank.{rank_of, state_of}
 use Rattle.comm_rank.specs.Runs.{RanHere}

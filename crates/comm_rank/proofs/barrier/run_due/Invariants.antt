@@ -1,4 +1,3 @@
-use Rattle.std.proofs.Common.{◌≡◌}
 use Rattle.comm_rank.specs.Rank.{rank_of, state_of, IsSameRank}
 use Rattle.comm_rank.proofs.Settling.{RanDue}
 use Rattle.comm_rank.proofs.barrier.run_due.Given as goal

@@ -1,5 +1,4 @@
-use Rattle.std.proofs.Common.{◌≡◌, ◌<◌, ◌≤◌, List, [], Result, Ok, Err, OnErr, ap, sym, ◌∙◌, refl, arith, length}
-use Rattle.comm_rank.specs.Fold.{letters_from}
+use Rattle.std.proofs.Common.{◌≡◌, ◌<◌, [], ap, ◌∙◌, refl, arith, length}
 use Rattle.comm_rank.specs.Links.{waiting}
 use Rattle.comm_rank.specs.Rank.{rank_of, state_of}
 use Rattle.comm_rank.proofs.Running.{RanHere-none, from_one}

@@ -1,4 +1,4 @@
-use Rattle.std.proofs.Common.{◌≡◌, ◌<◌, ◌*◌, ◌≤◌, List, Some, refl, ap, sym, ◌∙◌, subst, arith, get_or, set, length, map, slice_get, ℕ, ◌+◌, ◌^◌}
+use Rattle.std.proofs.Common.{◌≡◌, ◌<◌, ◌*◌, ◌≤◌, List, Some, ap, sym, ◌∙◌, subst, arith, get_or, set, length, map, slice_get, ℕ, ◌+◌, ◌^◌}
 use Rattle.std.specs.Option.{option_map}
 use Rattle.std.proofs.lemmas.List.{length-map}
 use Rattle.std.proofs.lemmas.Result.{err_from_is_err_and}

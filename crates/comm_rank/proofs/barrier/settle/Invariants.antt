@@ -1,4 +1,3 @@
-use Rattle.std.proofs.Common.{◌≡◌}
 use Rattle.comm_rank.specs.Rank.{states_of, IsWorld}
 use Rattle.comm_rank.proofs.Worlds.{SettledTo}
 use Rattle.comm_rank.proofs.barrier.settle.Given as goal

@@ -1,4 +1,4 @@
-use Rattle.std.proofs.Common.{◌≡◌, ◌+◌, arith, ◌∙◌}
+use Rattle.std.proofs.Common.{arith, ◌∙◌}
 use Rattle.comm_rank.proofs.Running.{SentHere-next}
 use Rattle.comm_rank.proofs.comm.send_out.Goals as goal
 

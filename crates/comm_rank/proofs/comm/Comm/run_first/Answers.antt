@@ -1,10 +1,10 @@
-use Rattle.std.proofs.Common.{◌≡◌, ◌+◌, ◌<◌, ◌++◌, List, [], Result, Ok, Err, OnErr, ap, sym, ◌∙◌, refl, arith, length, map, subst}
+use Rattle.std.proofs.Common.{◌≡◌, ◌+◌, ◌<◌, List, Result, Ok, Err, OnErr, ap, sym, ◌∙◌, refl, arith, length, map, subst}
 use Rattle.msg_codec.specs.Letter.{letter_of}
 use Rattle.comm_rank.specs.declared.handler.Outbound.{Outbound}
 use Rattle.comm_rank.specs.Fold.{letter_by}
 use Rattle.comm_rank.specs.Runs.{SentHere}
 use Rattle.comm_rank.specs.Rank.{state_of}
-use Rattle.comm_rank.proofs.Running.{RanHere-one, StoppedHere-refused, StoppedHere-sending}
+use Rattle.comm_rank.proofs.Running.{given_is, made_is, RanHere-one, StoppedHere-refused, StoppedHere-sending}
 use Rattle.comm_rank.proofs.comm.Comm.run_first.Goals as goal
 
 on_err : {A E : Type 0} (r : Result A E) (P : Type 0) → P → OnErr r P
@@ -23,9 +23,9 @@ returns-in_err-sent-clause-stopped g c =
     let here = c.args.self.now.here in
     let ranks : c.args.self.now.out.ranks ≡ c.args.lists.now.ranks = c.args.self.now.same_ranks ∙ sym c.requires.world in
     let outs : c.run.new.out.letters ≡ (apply kept here c.args.lists.now.ranks l).1 =
-    c.in_ok-run.ensures.sent ∙ ap (λ (w : List Outbound). w ++ (apply kept here c.args.self.now.out.ranks l).1) c.args.self.now.nothing_out
-    ∙ ap (λ n. (apply kept here n l).1) ranks in
-    let contents : c.run.new.self ≡ (apply kept here c.args.lists.now.ranks l).0 = c.in_ok-run.ensures.contents ∙ ap (λ n. (apply kept here n l).0) ranks in
+    given_is apply here c.args.self.now.out.ranks c.args.lists.now.ranks kept l c.args.self.now.out.letters c.run.new.out.letters ranks c.args.self.now.nothing_out c.in_ok-run.ensures.sent in
+    let contents : c.run.new.self ≡ (apply kept here c.args.lists.now.ranks l).0 =
+    made_is apply here c.args.self.now.out.ranks c.args.lists.now.ranks kept c.run.new.self l ranks c.in_ok-run.ensures.contents in
     let e = c.in_err-sent.ensures.err in
     on_err c.from_residual-in_err-sent.result _ (StoppedHere-sending apply here c.args.from e.0 (state_of c.args.self.now) _ c.args.lists.now _ l _ c.first-letter.ensures.letter outs contents e.1 e.2 e.3)
 
@@ -37,9 +37,9 @@ returns-clause-ran g c =
     let here = c.args.self.now.here in
     let ranks : c.args.self.now.out.ranks ≡ c.args.lists.now.ranks = c.args.self.now.same_ranks ∙ sym c.requires.world in
     let outs : c.run.new.out.letters ≡ (apply kept here c.args.lists.now.ranks l).1 =
-    c.in_ok-run.ensures.sent ∙ ap (λ (w : List Outbound). w ++ (apply kept here c.args.self.now.out.ranks l).1) c.args.self.now.nothing_out
-    ∙ ap (λ n. (apply kept here n l).1) ranks in
-    let contents : c.run.new.self ≡ (apply kept here c.args.lists.now.ranks l).0 = c.in_ok-run.ensures.contents ∙ ap (λ n. (apply kept here n l).0) ranks in
+    given_is apply here c.args.self.now.out.ranks c.args.lists.now.ranks kept l c.args.self.now.out.letters c.run.new.out.letters ranks c.args.self.now.nothing_out c.in_ok-run.ensures.sent in
+    let contents : c.run.new.self ≡ (apply kept here c.args.lists.now.ranks l).0 =
+    made_is apply here c.args.self.now.out.ranks c.args.lists.now.ranks kept c.run.new.self l ranks c.in_ok-run.ensures.contents in
     let f : c.args.from < c.args.lists.now.ranks = omega (arith, c.requires.sender, c.requires.world) in
     let h : here < c.args.lists.now.ranks = omega (arith, c.args.self.now.here_below, c.requires.world) in (
       l,

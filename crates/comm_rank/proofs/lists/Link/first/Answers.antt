@@ -1,4 +1,4 @@
-use Rattle.std.proofs.Common.{◌≡◌, ◌<◌, ◌∙◌, sym, ap, refl, length, slice_get, arith}
+use Rattle.std.proofs.Common.{◌<◌, ◌∙◌, sym, ap, refl, length, slice_get, arith}
 use Rattle.std.proofs.lemmas.Option.{slice_get_read}
 use Rattle.comm_rank.proofs.Singles.{first-joined, length-joined}
 use Rattle.comm_rank.proofs.lists.Link.first.Goals as goal

@@ -1,4 +1,4 @@
-use Rattle.std.proofs.Common.{ap, ◌∙◌, sym, subst, arith, set, OnOk, ◌++◌, ◌<◌, ◌≡◌}
+use Rattle.std.proofs.Common.{ap, subst, arith, set, OnOk, ◌++◌, ◌<◌, ◌≡◌}
 use Rattle.comm_rank.specs.Links.{Links, ChangesLink, waiting}
 use Rattle.comm_rank.proofs.Places.{grid_put, put_changes}
 use Rattle.comm_rank.proofs.lists.Lists.put.Goals as goal
