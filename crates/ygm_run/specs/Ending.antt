@@ -18,6 +18,28 @@ OnDone WriteFault P = ⊤
 OnDone NoMemory P = ⊤
 OnDone (CountFull rank at) P = ⊤
 
+-- where the text couldn't be written
+abbrev pub OnWriteFault : Status → Type 0 → Type 0
+OnWriteFault Done P = ⊤
+OnWriteFault (Usage kind) P = ⊤
+OnWriteFault (OpenFault file) P = ⊤
+OnWriteFault (ReadFault rank) P = ⊤
+OnWriteFault (BadLine rank line why) P = ⊤
+OnWriteFault WriteFault P = P
+OnWriteFault NoMemory P = ⊤
+OnWriteFault (CountFull rank at) P = ⊤
+
+-- where nothing was to be written
+abbrev pub UnlessWritten : Status → Type 0 → Type 0
+UnlessWritten Done P = ⊤
+UnlessWritten (Usage kind) P = P
+UnlessWritten (OpenFault file) P = P
+UnlessWritten (ReadFault rank) P = P
+UnlessWritten (BadLine rank line why) P = P
+UnlessWritten WriteFault P = ⊤
+UnlessWritten NoMemory P = P
+UnlessWritten (CountFull rank at) P = P
+
 -- The cause of a status: of refused words their kind, of a file that can't be opened what happened there, of a read
 -- that failed its rank, of a bad line its rank, of a text that can't be written what happened there.
 abbrev pub HasCauseOf : (UsageKind → Type 0) → Type 0 → (ℕ → Type 0) → (ℕ → Type 0) → Type 0 → Status → Type 0

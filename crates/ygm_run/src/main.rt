@@ -14,22 +14,29 @@ mod world;
 
 pub use running::run;
 use std::env;
+use std::io::ErrorKind;
 use std::process::ExitCode;
 use std::rt::Env;
 use ygm_io::{StdFiles, StdSink};
 
-/// The status of a run whose words can't be read.
-const BAD_WORDS: u8 = 1;
+/// How a run ends whose words can't be read: what it tells, and its number.
+const BAD_WORDS: (&str, u8) = ("a word is no text", 1);
 
-/// The status of a run for which memory is wanting.
-const NO_MEMORY: u8 = 6;
+/// How a run ends for which memory is wanting before it begins.
+const NO_MEMORY: (&str, u8) = ("out of memory", 6);
 
 // The words behind the program's name.
-fn words_of(rt: &(impl Env + AllocGlobal)) -> Result<Vec<String>, u8> {
-    let args = env::args(rt).map_err(|_| BAD_WORDS)?;
+fn words_of(rt: &(impl Env + AllocGlobal)) -> Result<Vec<String>, (&'static str, u8)> {
+    let args = match env::args(rt) {
+        Ok(args) => args,
+        Err(error) if error.kind() == ErrorKind::OutOfMemory => return Err(NO_MEMORY),
+        Err(_) => return Err(BAD_WORDS),
+    };
     let mut words = Vec::new(rt.alloc());
     for word in args.skip(1) {
-        words.push(word).map_err(|_| NO_MEMORY)?;
+        if words.push(word).is_err() {
+            return Err(NO_MEMORY);
+        }
     }
     Ok(words)
 }
@@ -37,8 +44,8 @@ fn words_of(rt: &(impl Env + AllocGlobal)) -> Result<Vec<String>, u8> {
 fn main(rt: HostRuntime) -> ExitCode {
     let words = match words_of(&rt) {
         Ok(words) => words,
-        Err(number) => {
-            let _ = eprintln!(rt; "ygm_run: the words can't be read");
+        Err((text, number)) => {
+            let _ = eprintln!(rt; "ygm_run: {text}");
             return ExitCode::from(number);
         }
     };

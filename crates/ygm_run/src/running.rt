@@ -2,7 +2,7 @@
 ghost use Rattle.std.specs.Prelude.{◌≡◌, ◌<◌, ◌≤◌, ◌^◌, ℕ, List, [], Ok, Err, Some, IfErr, OnOk, IsErr, length, map, slice_get, slice_index};
 ghost use Rattle.ygm_io.specs.Content.{AppendedTo, NothingLeft};
 ghost use Rattle.ygm_io.specs.Faults.{Rose};
-ghost use Rattle.ygm_run.specs.Ending.{OnDone, HasCauseOf, status_of};
+ghost use Rattle.ygm_run.specs.Ending.{OnDone, OnWriteFault, UnlessWritten, HasCauseOf, status_of};
 ghost use Rattle.ygm_run.specs.Job.{AreTold, HasLongLineAt, lines_of_each};
 ghost use Rattle.ygm_run.specs.Notes.{FileIsBelow};
 ghost use Rattle.ygm_run.specs.Tally.{tally_text};
@@ -46,6 +46,7 @@ fn open_all<F: Files>(
     ensures cause { IfErr result (HasCauseOf (λ _. ⊥) (Rose (F.faults files.old) (F.faults files.new)) (λ _. ⊥) (λ _. ⊥) ⊥) }
     ensures file { IfErr result (FileIsBelow (length names.now)) }
     ensures not_done { IfErr result (λ status. OnDone status ⊥) }
+    ensures not_written { IfErr result (λ status. OnWriteFault status ⊥) }
 {
     for (file, name) in names.iter().enumerate() {
         match files.open_named(name.as_str()) {
@@ -70,6 +71,7 @@ fn finish<S: Source, O: Sink>(alloc: Global, sources: &mut [S], out: &mut O) -> 
     ensures nothing_left { OnDone result ((rank : ℕ) (source : S) → slice_get sources.new rank ≡ Some source → NothingLeft (S.left source)) }
     ensures cause { HasCauseOf (λ _. ⊥) ⊥ (λ rank. 0 < slice_index (map S.faults sources.new) rank)
         (HasLongLineAt (map S.left sources.old)) (Rose (O.faults out.old) (O.faults out.new)) result }
+    ensures nothing_written { UnlessWritten result (O.holds out.new ≡ O.holds out.old) }
     ensures file { (count : ℕ) → FileIsBelow count result }
 {
     match tally(alloc, sources) {
@@ -94,6 +96,7 @@ fn run_tally<F: Files, O: Sink>(
         → AppendedTo (tally_text (lines_of_each bytes)) (O.holds out.old) (O.holds out.new)) }
     ensures nothing_left { OnDone result.status ((rank : ℕ) (source : F.Src) → slice_get result.sources.items rank ≡ Some source → NothingLeft (F.Src.left source)) }
     ensures all { OnDone result.status (length result.sources.items ≡ length names.now) }
+    ensures nothing_written { UnlessWritten result.status (O.holds out.new ≡ O.holds out.old) }
     ensures cause { HasCauseOf (λ _. ⊥) (Rose (F.faults files.old) (F.faults files.new)) (λ rank. 0 < slice_index (map F.Src.faults result.sources.items) rank)
         (HasLongLineAt (map (F.content files.old) (texts_of names.now))) (Rose (O.faults out.old) (O.faults out.new)) result.status }
     ensures file { FileIsBelow (length names.now) result.status }
@@ -127,15 +130,17 @@ pub fn run<F: Files, O: Sink, N: Sink>(
     out: &mut O,
     notes: &mut N,
 ) -> Ended<F::Src>
-    // Where the files tell their bytes, the text of their lines was written, and nothing else.
-    ensures done { OnDone result.status ((names bytes : List (List ℕ)) → order_of (texts_of words.now) ≡ Ok names
-        → AreTold (map (F.content files.old) names) bytes
-        → AppendedTo (tally_text (lines_of_each bytes)) (O.holds out.old) (O.holds out.new)) }
+    // The words name files, each was opened, and where these tell their bytes, the text of their lines was
+    // written and nothing else.
+    ensures done { OnDone result.status ((names : List (List ℕ)) × (order_of (texts_of words.now) ≡ Ok names)
+        × (length result.sources.items ≡ length names)
+        × ((bytes : List (List ℕ)) → AreTold (map (F.content files.old) names) bytes
+        → AppendedTo (tally_text (lines_of_each bytes)) (O.holds out.old) (O.holds out.new))) }
     ensures nothing_left { OnDone result.status ((rank : ℕ) (source : F.Src) → slice_get result.sources.items rank ≡ Some source → NothingLeft (F.Src.left source)) }
-    ensures all_opened { OnDone result.status ((names : List (List ℕ)) → order_of (texts_of words.now) ≡ Ok names → length result.sources.items ≡ length names) }
+    ensures nothing_written { UnlessWritten result.status (O.holds out.new ≡ O.holds out.old) }
     ensures cause { HasCauseOf (λ kind. order_of (texts_of words.now) ≡ Err kind) (Rose (F.faults files.old) (F.faults files.new))
         (λ rank. 0 < slice_index (map F.Src.faults result.sources.items) rank)
-        (λ rank. (names : List (List ℕ)) → order_of (texts_of words.now) ≡ Ok names → HasLongLineAt (map (F.content files.old) names) rank)
+        (λ rank. (names : List (List ℕ)) × (order_of (texts_of words.now) ≡ Ok names) × HasLongLineAt (map (F.content files.old) names) rank)
         (Rose (O.faults out.old) (O.faults out.new)) result.status }
 {
     match read_words(words) {
