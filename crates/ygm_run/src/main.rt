@@ -9,6 +9,8 @@ mod running;
 pub mod status;
 mod tally;
 pub mod tally_text;
+#[cfg(test)]
+mod tests;
 pub mod words;
 mod world;
 

@@ -1,0 +1,21 @@
+# make          builds the program
+# make run      runs the main job on sample data
+# make test     the whole gate: proofs, must-fail edits, tests and the stored run
+# make install  puts the program into PREFIX/bin
+PREFIX ?= /usr/local
+PROGRAM = crates/ygm_run/out/ygm_run
+MAKEFLAGS += --no-print-directory
+
+.PHONY: all run test install
+
+all:
+	@cd crates/ygm_run && rt run -- tally data/f0 data/f1 >/dev/null
+
+run:
+	@cd crates/ygm_run && rt run -- tally data/access1.log data/access2.log data/access3.log
+
+test:
+	@rt ci
+
+install: all
+	install -D $(PROGRAM) $(DESTDIR)$(PREFIX)/bin/ygm_run
