@@ -1,5 +1,6 @@
 -- Facts about how a run ended.
-use Rattle.std.specs.Prelude.{ℕ, ⊤}
+use Rattle.std.specs.Prelude.{◌≡◌, ℕ, List, take, ⊤}
+use Rattle.ygm_io.specs.Content.{Told, AppendedTo}
 use Rattle.ygm_run.specs.declared.status.Status.{Status}
 use Rattle.ygm_run.specs.declared.status.Status.TheVariants.{Done, Usage, OpenFault, ReadFault, BadLine, WriteFault, NoMemory, CountFull}
 use Rattle.ygm_run.specs.declared.tally.JobFault.{JobFault}
@@ -39,6 +40,21 @@ UnlessWritten (BadLine rank line why) P = P
 UnlessWritten WriteFault P = ⊤
 UnlessWritten NoMemory P = P
 UnlessWritten (CountFull rank at) P = P
+
+-- where a file couldn't be opened, it is the one of that number
+abbrev pub IsOpenFaultAt : ℕ → Status → Type 0
+IsOpenFaultAt count Done = ⊤
+IsOpenFaultAt count (Usage kind) = ⊤
+IsOpenFaultAt count (OpenFault file) = file ≡ count
+IsOpenFaultAt count (ReadFault rank) = ⊤
+IsOpenFaultAt count (BadLine rank line why) = ⊤
+IsOpenFaultAt count WriteFault = ⊤
+IsOpenFaultAt count NoMemory = ⊤
+IsOpenFaultAt count (CountFull rank at) = ⊤
+
+-- the front of a text was put behind what was held
+abbrev pub FrontAppended : List ℕ → Told → Told → Type 0
+FrontAppended text before now = (count : ℕ) × AppendedTo (take count text) before now
 
 -- The cause of a status: of refused words their kind, of a file that can't be opened what happened there, of a read
 -- that failed its rank, of a bad line its rank, of a text that can't be written what happened there.

@@ -2,7 +2,7 @@
 ghost use Rattle.std.specs.Prelude.{◌≡◌, ◌<◌, ◌≤◌, ◌^◌, ℕ, List, [], Ok, Err, Some, IfErr, OnOk, IsErr, length, map, slice_get, slice_index};
 ghost use Rattle.ygm_io.specs.Content.{AppendedTo, NothingLeft};
 ghost use Rattle.ygm_io.specs.Faults.{Rose};
-ghost use Rattle.ygm_run.specs.Ending.{OnDone, OnWriteFault, UnlessWritten, HasCauseOf, status_of};
+ghost use Rattle.ygm_run.specs.Ending.{FrontAppended, IsOpenFaultAt, OnDone, OnWriteFault, UnlessWritten, HasCauseOf, status_of};
 ghost use Rattle.ygm_run.specs.Job.{AreTold, HasLongLineAt, lines_of_each};
 ghost use Rattle.ygm_run.specs.Notes.{FileIsBelow};
 ghost use Rattle.ygm_run.specs.Tally.{tally_text};
@@ -47,6 +47,7 @@ fn open_all<F: Files>(
     ensures file { IfErr result (FileIsBelow (length names.now)) }
     ensures not_done { IfErr result (λ status. OnDone status ⊥) }
     ensures not_written { IfErr result (λ status. OnWriteFault status ⊥) }
+    ensures which { IfErr result (IsOpenFaultAt (length sources.new.items)) }
 {
     for (file, name) in names.iter().enumerate() {
         match files.open_named(name.as_str()) {
@@ -71,7 +72,10 @@ fn finish<S: Source, O: Sink>(alloc: Global, sources: &mut [S], out: &mut O) -> 
     ensures nothing_left { OnDone result ((rank : ℕ) (source : S) → slice_get sources.new rank ≡ Some source → NothingLeft (S.left source)) }
     ensures cause { HasCauseOf (λ _. ⊥) ⊥ (λ rank. 0 < slice_index (map S.faults sources.new) rank)
         (HasLongLineAt (map S.left sources.old)) (Rose (O.faults out.old) (O.faults out.new)) result }
+    ensures front { OnWriteFault result ((bytes : List (List ℕ)) → AreTold (map S.left sources.old) bytes
+        → FrontAppended (tally_text (lines_of_each bytes)) (O.holds out.old) (O.holds out.new)) }
     ensures nothing_written { UnlessWritten result (O.holds out.new ≡ O.holds out.old) }
+    ensures which { (count : ℕ) → IsOpenFaultAt count result }
     ensures file { (count : ℕ) → FileIsBelow count result }
 {
     match tally(alloc, sources) {
@@ -96,7 +100,10 @@ fn run_tally<F: Files, O: Sink>(
         → AppendedTo (tally_text (lines_of_each bytes)) (O.holds out.old) (O.holds out.new)) }
     ensures nothing_left { OnDone result.status ((rank : ℕ) (source : F.Src) → slice_get result.sources.items rank ≡ Some source → NothingLeft (F.Src.left source)) }
     ensures all { OnDone result.status (length result.sources.items ≡ length names.now) }
+    ensures front { OnWriteFault result.status ((bytes : List (List ℕ)) → AreTold (map (F.content files.old) (texts_of names.now)) bytes
+        → FrontAppended (tally_text (lines_of_each bytes)) (O.holds out.old) (O.holds out.new)) }
     ensures nothing_written { UnlessWritten result.status (O.holds out.new ≡ O.holds out.old) }
+    ensures which { IsOpenFaultAt (length result.sources.items) result.status }
     ensures cause { HasCauseOf (λ _. ⊥) (Rose (F.faults files.old) (F.faults files.new)) (λ rank. 0 < slice_index (map F.Src.faults result.sources.items) rank)
         (HasLongLineAt (map (F.content files.old) (texts_of names.now))) (Rose (O.faults out.old) (O.faults out.new)) result.status }
     ensures file { FileIsBelow (length names.now) result.status }
@@ -137,7 +144,15 @@ pub fn run<F: Files, O: Sink, N: Sink>(
         × ((bytes : List (List ℕ)) → AreTold (map (F.content files.old) names) bytes
         → AppendedTo (tally_text (lines_of_each bytes)) (O.holds out.old) (O.holds out.new))) }
     ensures nothing_left { OnDone result.status ((rank : ℕ) (source : F.Src) → slice_get result.sources.items rank ≡ Some source → NothingLeft (F.Src.left source)) }
+    // A text that couldn't be written whole stands there as far as it was.
+    ensures front { OnWriteFault result.status ((names : List (List ℕ)) × (order_of (texts_of words.now) ≡ Ok names)
+        × ((bytes : List (List ℕ)) → AreTold (map (F.content files.old) names) bytes
+            → FrontAppended (tally_text (lines_of_each bytes)) (O.holds out.old) (O.holds out.new))) }
     ensures nothing_written { UnlessWritten result.status (O.holds out.new ≡ O.holds out.old) }
+    // Refused words, and none else, are answered so.
+    ensures usage { IfErr (order_of (texts_of words.now)) (λ kind. result.status ≡ Status.Usage kind) }
+    // The files before the one that couldn't be opened were opened, and none after it.
+    ensures which { IsOpenFaultAt (length result.sources.items) result.status }
     ensures cause { HasCauseOf (λ kind. order_of (texts_of words.now) ≡ Err kind) (Rose (F.faults files.old) (F.faults files.new))
         (λ rank. 0 < slice_index (map F.Src.faults result.sources.items) rank)
         (λ rank. (names : List (List ℕ)) × (order_of (texts_of words.now) ≡ Ok names) × HasLongLineAt (map (F.content files.old) names) rank)
