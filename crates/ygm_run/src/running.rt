@@ -147,7 +147,7 @@ pub fn run<F: Files, O: Sink, N: Sink>(
     // A text that couldn't be written whole stands there as far as it was.
     ensures front { OnWriteFault result.status ((names : List (List ℕ)) × (order_of (texts_of words.now) ≡ Ok names)
         × ((bytes : List (List ℕ)) → AreTold (map (F.content files.old) names) bytes
-            → FrontAppended (tally_text (lines_of_each bytes)) (O.holds out.old) (O.holds out.new))) }
+        → FrontAppended (tally_text (lines_of_each bytes)) (O.holds out.old) (O.holds out.new))) }
     ensures nothing_written { UnlessWritten result.status (O.holds out.new ≡ O.holds out.old) }
     // Refused words, and none else, are answered so.
     ensures usage { IfErr (order_of (texts_of words.now)) (λ kind. result.status ≡ Status.Usage kind) }
