@@ -1,6 +1,6 @@
 # make          builds the program
 # make run      runs the main job on sample data
-# make test     the whole gate: proofs, must-fail edits, tests and the stored run
+# make test     the whole gate: proofs, must-fail edits, tests, the stored run, and the program seen from outside
 # make install  puts the program into PREFIX/bin
 PREFIX ?= /usr/local
 PROGRAM = crates/ygm_run/out/ygm_run
@@ -16,6 +16,8 @@ run:
 
 test:
 	@rt ci
+	@sh checks/refusals.sh $(PROGRAM)
+	@sh checks/against_sort.sh $(PROGRAM) README.md docs/*.md
 
 install: all
 	install -D $(PROGRAM) $(DESTDIR)$(PREFIX)/bin/ygm_run

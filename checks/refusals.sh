@@ -1,0 +1,71 @@
+#!/bin/sh
+# Refusals of the real program, seen from outside: its status, one line on standard error, nothing on standard
+# output. Silent where all is as it should be.
+#
+#   sh checks/refusals.sh PROGRAM
+set -u
+LC_ALL=C
+export LC_ALL
+program=$(realpath "$1") || exit 1
+space=$(mktemp -d) || exit 1
+trap 'rm -rf "$space"' EXIT
+cd "$space" || exit 1
+failures=0
+
+# is NAME STATUS NOTE: the last run, whose status is in `status`, ended so.
+is() {
+    printf '%s\n' "$3" >expected
+    if [ "$status" -ne "$2" ] || ! cmp -s expected err || [ -s out ]; then
+        printf 'checks/refusals.sh: %s: status %s, and not %s and "%s":\n' "$1" "$status" "$2" "$3" >&2
+        cat err >&2
+        failures=$((failures + 1))
+    fi
+}
+
+# refused NAME STATUS NOTE WORD..: the program with these words ends so.
+refused() {
+    name=$1 number=$2 note=$3
+    shift 3
+    : >out
+    "$program" "$@" >out 2>err
+    status=$?
+    is "$name" "$number" "$note"
+}
+
+printf 'b\na\n' >lines
+mkdir folder
+head -c 1000001 /dev/zero | tr '\0' a >long
+head -c 1000000 /dev/zero | tr '\0' a >longest
+
+refused 'no words' 1 'ygm_run: no job'
+refused 'another job' 1 'ygm_run: unknown job' count lines
+refused 'an option' 1 'ygm_run: unknown option' tally --x lines
+refused 'no file' 1 'ygm_run: no file' tally
+refused 'a word that is no text' 1 'ygm_run: a word is no text' tally "$(printf '\377')"
+refused 'a file that is not there' 2 'ygm_run: cannot open missing' tally lines missing
+refused 'a folder' 3 'ygm_run: read failed at rank 1' tally lines folder
+refused 'a line of 1,000,001 bytes' 4 'ygm_run: rank 0 line 1: line too long' tally long
+
+: >out
+"$program" tally lines >/dev/full 2>err
+status=$?
+is 'a full device' 5 'ygm_run: write failed'
+
+"$program" tally lines >&- 2>err
+status=$?
+is 'a closed standard output' 5 'ygm_run: write failed'
+
+# And what isn't refused: the longest line, and lines from a file whose name begins with `--`.
+cp lines ./--x
+printf '1\ta\n1\tb\n' >expected
+if ! "$program" tally -- --x >out 2>err || ! cmp -s expected out || [ -s err ]; then
+    echo 'checks/refusals.sh: a name behind -- is not taken' >&2
+    failures=$((failures + 1))
+fi
+{ printf '1\t'; cat longest; echo; } >expected
+if ! "$program" tally longest >out 2>err || ! cmp -s expected out || [ -s err ]; then
+    echo 'checks/refusals.sh: a line of 1,000,000 bytes is not taken' >&2
+    failures=$((failures + 1))
+fi
+
+[ "$failures" -eq 0 ]
