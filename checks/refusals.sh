@@ -55,6 +55,12 @@ is 'a full device' 5 'ygm_run: write failed'
 status=$?
 is 'a closed standard output' 5 'ygm_run: write failed'
 
+# The text is longer than what a pipe takes that nobody reads.
+: >out
+{ "$program" tally longest 2>err; echo $? >ended; } | true
+status=$(cat ended)
+is 'a broken pipe' 5 'ygm_run: write failed'
+
 # And what isn't refused: the longest line, and lines from a file whose name begins with `--`.
 cp lines ./--x
 printf '1\ta\n1\tb\n' >expected
