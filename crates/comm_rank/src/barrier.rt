@@ -2,7 +2,7 @@
 ghost use Rattle.std.specs.Prelude.{◌≡◌, ◌<◌, ◌≤◌, ◌^◌, ◌*◌, ℕ, List, length, slice_index, take, IfErr, OnOk, OnErr};
 ghost use Rattle.std.specs.List.{AllByRecursion};
 ghost use Rattle.msg_codec.specs.declared.letter.Letter.{Letter};
-ghost use Rattle.comm_rank.specs.Fault.{IsFullAt, IsFullSomewhere};
+ghost use Rattle.comm_rank.specs.Fault.{GivesIfFull, IsFullAt, IsFullSomewhere};
 ghost use Rattle.comm_rank.specs.Fold.{letters_from};
 ghost use Rattle.comm_rank.specs.Links.{waiting, place};
 ghost use Rattle.comm_rank.specs.Rank.{rank_of, ranks_of, sent_count_of, state_of, states_of, IsSameRank, IsWorld};
@@ -26,6 +26,7 @@ fn run_from<H: Handler>(
         × AllByRecursion (λ l. l.from ≡ from) ran × (length ran ≡ count)) }
     ensures stopped { OnErr result (StoppedHere H.apply (rank_of comm.old) (state_of comm.old) (state_of comm.new) lists.old lists.new) }
     ensures cause { IfErr result (IsFullAt (sent_count_of comm.new) (2 ^ 56)) }
+    ensures gave { IfErr result (GivesIfFull H.apply) }
     ensures same_rank { IsSameRank comm.old comm.new }
 {
     for _ in 0..count {
@@ -49,6 +50,7 @@ fn run_due<H: Handler>(
         ≡ take (slice_index due.now (place lists.old.ranks from (rank_of comm.old))) (waiting lists.old from (rank_of comm.old)))) }
     ensures stopped { OnErr result (StoppedHere H.apply (rank_of comm.old) (state_of comm.old) (state_of comm.new) lists.old lists.new) }
     ensures cause { IfErr result (IsFullAt (sent_count_of comm.new) (2 ^ 56)) }
+    ensures gave { IfErr result (GivesIfFull H.apply) }
     ensures same_rank { IsSameRank comm.old comm.new }
 {
     let ranks = comm.ranks();
@@ -78,6 +80,7 @@ pub fn settle<H: Handler>(
     ensures settled { OnOk result (Settled H.apply caller (states_of comms.old) (states_of comms.new) lists.old lists.new) }
     ensures stopped { OnErr result (StoppedAt H.apply (states_of comms.old) (states_of comms.new) lists.old lists.new) }
     ensures cause { IfErr result (IsFullSomewhere (states_of comms.new) (2 ^ 56)) }
+    ensures gave { IfErr result (GivesIfFull H.apply) }
     ensures world { IsWorld comms.new lists.new.ranks }
     ensures ranks { lists.new.ranks ≡ lists.old.ranks }
 {

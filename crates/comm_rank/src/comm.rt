@@ -1,7 +1,7 @@
 //! One rank of a world.
 ghost use Rattle.std.specs.Prelude.{◌≡◌, ◌<◌, ◌≤◌, ◌+◌, ◌-◌, ◌*◌, ◌^◌, ℕ, List, [], ◌∷◌, ◌++◌, length, drop, take, Some, map, IfOk, IfErr, IsErr, OnOk, OnErr, slice_get};
 ghost use Rattle.comm_rank.specs.Links.{waiting, ChangesLink};
-ghost use Rattle.comm_rank.specs.Fault.{IsFullAt};
+ghost use Rattle.comm_rank.specs.Fault.{GivesIfFull, IsFullAt};
 ghost use Rattle.msg_codec.specs.Letter.{letter_of};
 ghost use Rattle.msg_codec.specs.declared.letter.Letter.{Letter};
 ghost use Rattle.comm_rank.specs.Fold.{letter_by};
@@ -75,6 +75,7 @@ fn send_out(
     ensures counted { OnOk result (sent.new.count ≡ sent.old.count + length out.now.letters) }
     ensures limit { sent.new.limit ≡ sent.old.limit }
     ensures cause { IfErr result (IsFullAt sent.new.count sent.old.limit) }
+    ensures some { OnErr result (0 < length out.now.letters) }
 {
     for k in 0..out.count() {
         carry(alloc, sent, lists, out.letter(here, k))?;
@@ -172,6 +173,7 @@ impl<H: Handler> Comm<H> {
         ensures ran { OnOk result ((l : Letter) × (l.from ≡ from) × RanHere H.apply (rank_of self.old) (state_of self.old) (state_of self.new) lists.old lists.new (l ∷ [])) }
         ensures stopped { OnErr result (StoppedHere H.apply (rank_of self.old) (state_of self.old) (state_of self.new) lists.old lists.new) }
         ensures cause { IfErr result (IsFullAt (sent_count_of self.new) (2 ^ 56)) }
+        ensures gave { IfErr result (GivesIfFull H.apply) }
         ensures same_rank { IsSameRank self.old self.new }
     {
         let letter = lists.first(from, self.here);
