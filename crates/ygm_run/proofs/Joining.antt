@@ -1,28 +1,63 @@
--- The lines of one file after another are on their way.
-use Rattle.std.proofs.Common.{◌≡◌, ℕ, ◌+◌, ◌<◌, ◌≤◌, cond, List, [], ◌++◌, Some, None, Option, IfSome, length, map, set, get_or, refl, sym, ap, ◌∙◌, subst, inl, inr, arith, slice_get}
+-- The files of one rank after another are read, and their lines are on their way.
+use Rattle.std.proofs.Common.{◌≡◌, ℕ, zero, suc, ◌+◌, ◌<◌, ◌≤◌, cond, eqb, List, [], ◌∷◌, ◌++◌, Some, None, Option, IfSome, length, map, set, get_or, refl, sym, ap, ◌∙◌, subst, inl, inr, arith, slice_get}
 use Rattle.std.specs.Option.{option_map}
-use Rattle.std.proofs.lemmas.Bool.{cases_eq, cases_lt, eq-eqb, ne_eqb, lt-ltb, le-ltb}
+use Rattle.std.proofs.lemmas.Bool.{cases_eq, cases_lt, eq-eqb, ne_eqb}
 use Rattle.std.proofs.lemmas.List.{length-map, get_or_past}
-use Rattle.std.proofs.lemmas.Option.{slice_get-map, get_or_from_slice_get}
+use Rattle.std.proofs.lemmas.Option.{slice_get-map, slice_get_cases, slice_get_within, get_or_from_slice_get}
+use Rattle.comm_rank.specs.declared.comm.Comm.{Comm}
 use Rattle.comm_rank.specs.Links.{Links}
+use Rattle.comm_rank.specs.Rank.{sent_count_of, state_of, states_of}
 use Rattle.comm_rank.specs.Runs.{State}
 use Rattle.comm_rank.proofs.Worlds.{slice_get-set_same, slice_get-set_other, slice_get-set_at}
 use Rattle.counting_set.specs.Counting.{Counts}
-use Rattle.ygm_io.specs.Content.{Told, NothingLeft}
-use Rattle.ygm_io.specs.Faults.{Rose}
-use Rattle.ygm_run.specs.declared.input.FileFault.{FileFault}
-use Rattle.ygm_run.specs.declared.input.FileFault.TheVariants.{Read as FileRead, TooLong as FileTooLong, CountFull as FileFull, NoMemory as FileNoMemory}
+use Rattle.ygm_io.specs.Content.{Told}
+use Rattle.ygm_run.specs.declared.status.InputFault.{InputFault}
 use Rattle.ygm_run.specs.Carried.{Carried}
-use Rattle.ygm_run.specs.Fed.{IsSent, OnTooLong, with_lines}
-use Rattle.ygm_run.specs.Job.{AreTold, HasCause, HasLongLine, fault_at, lines_of_each, own_upto}
+use Rattle.ygm_run.specs.Fed.{IsSent, with_lines}
+use Rattle.ygm_run.specs.Inputs.{AllRead, AreRests, IsFull, IsFullAtRank, IsLowestFault, IsRead, IsRest}
+use Rattle.ygm_run.specs.Job.{AreTold, lines_of_each}
 use Rattle.ygm_run.specs.Lines.{lines_of}
-use Rattle.ygm_run.proofs.Feeding.{same_own, failed}
+use Rattle.ygm_run.proofs.Feeding.{same_own, rest_none}
 
-own_below : (files : List (List (List ℕ))) (k r : ℕ) → r < k → own_upto files k r ≡ get_or files r []
-own_below files k r lt = ap (λ b. cond b (get_or files r []) []) (lt-ltb r k lt)
+-- this is the fault of the lowest of the first ranks that has one, with its rank
+abbrev pub LowestBelow : (ℕ → Option InputFault) → ℕ → Option (ℕ × InputFault) → Type 0
+LowestBelow fault k None = (r : ℕ) → r < k → fault r ≡ None
+LowestBelow fault k (Some found) = (found.0 < k) × (fault found.0 ≡ Some found.1) × ((r : ℕ) → r < found.0 → fault r ≡ None)
 
-own_above : (files : List (List (List ℕ))) (k r : ℕ) → k ≤ r → own_upto files k r ≡ []
-own_above files k r le = ap (λ b. cond b (get_or files r []) []) (le-ltb r k le)
+-- the same faults, and that of one rank
+abbrev with_fault : (ℕ → Option InputFault) → ℕ → Option InputFault → ℕ → Option InputFault
+with_fault fault k new r = cond (eqb r k) new (fault r)
+
+at_same : (fault : ℕ → Option InputFault) (k r : ℕ) (new : Option InputFault) → r ≡ k → with_fault fault k new r ≡ new
+at_same fault k r new e = ap (λ b. cond b new (fault r)) (eq-eqb r k e)
+
+at_other : (fault : ℕ → Option InputFault) (k r : ℕ) (new : Option InputFault) → (r ≡ k → ⊥) → with_fault fault k new r ≡ fault r
+at_other fault k r new ne = ap (λ b. cond b new (fault r)) (ne_eqb r k ne)
+
+-- the lowest fault, once that of the next rank is known
+pub lowest_more : (fault : ℕ → Option InputFault) (k : ℕ) (new : Option InputFault) (lowest now : Option (ℕ × InputFault)) → LowestBelow fault k lowest
+    → (lowest ≡ None → now ≡ option_map (λ found. (k, found)) new) → ((found : ℕ × InputFault) → lowest ≡ Some found → now ≡ lowest) → LowestBelow (with_fault fault k new) (k + 1) now
+lowest_more fault k None None now before none some =
+    subst (LowestBelow (with_fault fault k None) (k + 1)) (sym (none refl))
+    (λ r lt. elim (cases_eq r k) [ inl e ↦ at_same fault k r None e | inr ne ↦ at_other fault k r None ne ∙ before r (omega (arith, lt, ne)) ])
+lowest_more fault k (Some new) None now before none some =
+    subst (LowestBelow (with_fault fault k (Some new)) (k + 1)) (sym (none refl))
+    (omega arith, at_same fault k k (Some new) refl, λ r lt. at_other fault k r (Some new) (λ e. omega (arith, lt, e)) ∙ before r lt)
+lowest_more fault k new (Some found) now before none some =
+    subst (LowestBelow (with_fault fault k new) (k + 1)) (sym (some found refl))
+    (omega (arith, before.0), at_other fault k found.0 new (λ e. omega (arith, before.0, e)) ∙ before.1, λ r lt. at_other fault k r new (λ e. omega (arith, before.0, lt, e)) ∙ before.2 r lt)
+
+-- The files of the first ranks were read, and the lines before each fault are on their way; the other files are as they were.
+pub record ReadSoFar {S : Type 0} (left : S → Told) (count : S → ℕ) (n : ℕ) (start sources : List S) (k : ℕ) (states : List (State Counts)) (links : Links) (lowest : Option (ℕ × InputFault)) : Type 0 where
+  pub own : ℕ → List (List ℕ)
+  pub fault : ℕ → Option InputFault
+  pub carried : Carried own n states links
+  pub above : (r : ℕ) → k ≤ r → own r ≡ []
+  pub read : (r : ℕ) (held : Told) (source : S) → r < k → slice_get (map left start) r ≡ Some held → slice_get sources r ≡ Some source → IsRead held (left source) (count source) (fault r)
+  pub lines : (r : ℕ) (held : Told) → r < k → fault r ≡ None → slice_get (map left start) r ≡ Some held → IfSome held (λ bytes. own r ≡ lines_of bytes)
+  pub untouched : (r : ℕ) → k ≤ r → slice_get sources r ≡ slice_get start r
+  pub rests : AreRests left (map left start) sources
+  pub lowest_is : LowestBelow fault k lowest
 
 with_same : (own : ℕ → List (List ℕ)) (rank other : ℕ) (lines : List (List ℕ)) → other ≡ rank → with_lines own rank lines other ≡ own other ++ lines
 with_same own rank other lines e = ap (λ b. cond b (own other ++ lines) (own other)) (eq-eqb other rank e)
@@ -30,65 +65,121 @@ with_same own rank other lines e = ap (λ b. cond b (own other ++ lines) (own ot
 with_other : (own : ℕ → List (List ℕ)) (rank other : ℕ) (lines : List (List ℕ)) → (other ≡ rank → ⊥) → with_lines own rank lines other ≡ own other
 with_other own rank other lines ne = ap (λ b. cond b (own other ++ lines) (own other)) (ne_eqb other rank ne)
 
--- the bytes that a source of the list tells
-told_at : {X : Type 0} (left : X → Told) (sources : List X) (bytes : List (List ℕ)) (k : ℕ) (item : X) → AreTold (map left sources) bytes → slice_get sources k ≡ Some item → (b : List ℕ) × (slice_get bytes k ≡ Some b) × (left item ≡ Some b)
-told_at left sources bytes k item told at =
-    of (slice_get bytes k) refl (sym (slice_get-map left sources k ∙ ap (option_map left) at) ∙ ap (λ (w : List Told). slice_get w k) told ∙ slice_get-map Some bytes k) where
-      of : (o : Option (List ℕ)) → slice_get bytes k ≡ o → Some (left item) ≡ option_map Some (slice_get bytes k) → (b : List ℕ) × (slice_get bytes k ≡ Some b) × (left item ≡ Some b)
-      of None is e = absurd (let f = e ∙ ap (option_map Some) is in cc)
-      of (Some b) is e = let f = e ∙ ap (option_map Some) is in (b, is, cc)
+one_of : {X : Type 0} (o : Option X) (x y : X) → o ≡ Some x → o ≡ Some y → x ≡ y
+one_of None x y p q = cc
+one_of (Some z) x y p q = cc
 
-if_told : (left : Told) (b : List ℕ) (P : List ℕ → Type 0) → left ≡ Some b → IfSome left P → P b
-if_told left b P e h = subst (λ (t : Told). IfSome t P) e h
+held_at : {X : Type 0} (left : X → Told) (start : List X) (r : ℕ) (item : X) (held : Told) → slice_get start r ≡ Some item → slice_get (map left start) r ≡ Some held → left item ≡ held
+held_at left start r item held at is = one_of (slice_get (map left start) r) (left item) held (slice_get-map left start r ∙ ap (option_map left) at) is
 
-pub sent_more : {X : Type 0} (left : X → Told) (n k : ℕ) (sources : List X) (item : X) (s0 s1 s2 : List (State Counts)) (l0 l1 l2 : Links)
-    → ((bytes : List (List ℕ)) → AreTold (map left sources) bytes → Carried (λ _. []) n s0 l0 → Carried (own_upto (lines_of_each bytes) k) n s1 l1)
-    → IsSent n k s1 s2 l1 l2 (left item) → slice_get sources k ≡ Some item
-    → (bytes : List (List ℕ)) → AreTold (map left sources) bytes → Carried (λ _. []) n s0 l0 → Carried (own_upto (lines_of_each bytes) (k + 1)) n s2 l2
-sent_more left n k sources item s0 s1 s2 l0 l1 l2 so_far sent at bytes told start =
-    let files = lines_of_each bytes in
-    let b = told_at left sources bytes k item told at in
-    let lines : sent.lines ≡ lines_of b.0 = if_told (left item) b.0 (λ bytes. sent.lines ≡ lines_of bytes) b.2 sent.all in
-    let mine : get_or files k [] ≡ lines_of b.0 = get_or_from_slice_get files k (lines_of b.0) [] (slice_get-map lines_of bytes k ∙ ap (option_map lines_of) b.1) in
-    same_own (with_lines (own_upto files k) k sent.lines) (own_upto files (k + 1)) n s2 l2
-    (λ r. elim (cases_eq r k) [
-      | inl e ↦
-          with_same (own_upto files k) k r sent.lines e ∙ ap (λ w. w ++ sent.lines) (own_above files k r (omega (arith, e))) ∙ lines ∙ sym mine
-          ∙ ap (λ i. get_or files i []) (sym e) ∙ sym (own_below files (k + 1) r (omega (arith, e)))
-      | inr ne ↦ with_other (own_upto files k) k r sent.lines ne ∙ elim (cases_lt r k) [
-        | inl lt ↦ own_below files k r lt ∙ sym (own_below files (k + 1) r (omega (arith, lt)))
-        | inr le ↦ own_above files k r le ∙ sym (own_above files (k + 1) r (omega (arith, le, ne)))
-      ]
-    ])
-    (sent.carried (own_upto files k) (so_far bytes told start))
+-- what was left of a source at the start
+start_at : {X : Type 0} (left : X → Told) (start : List X) (r : ℕ) (held : Told) (source : X) → slice_get (map left start) r ≡ Some held → slice_get start r ≡ Some source → IsRest held (left source)
+start_at left start r held source is at = subst (λ t. IsRest t (left source)) (held_at left start r source held at is) (rest_none (left source))
 
-pub all_sent : {X : Type 0} (left : X → Told) (n k : ℕ) (sources : List X) (s0 s1 : List (State Counts)) (l0 l1 : Links) → length sources ≡ n → n ≤ k
-    → ((bytes : List (List ℕ)) → AreTold (map left sources) bytes → Carried (λ _. []) n s0 l0 → Carried (own_upto (lines_of_each bytes) k) n s1 l1)
-    → (bytes : List (List ℕ)) → AreTold (map left sources) bytes → Carried (λ _. []) n s0 l0 → Carried (λ rank. get_or (lines_of_each bytes) rank []) n s1 l1
-all_sent left n k sources s0 s1 l0 l1 all end so_far bytes told start =
-    let files = lines_of_each bytes in
-    let many : length files ≡ n = length-map bytes lines_of ∙ sym (length-map bytes Some) ∙ sym (ap length told) ∙ length-map sources left ∙ all in
-    same_own (own_upto files k) (λ rank. get_or files rank []) n s1 l1
-    (λ r. elim (cases_lt r k) [
-      | inl lt ↦ own_below files k r lt
-      | inr le ↦ own_above files k r le ∙ sym (get_or_past files r [] (omega (arith, le, end, many)))
-    ])
-    (so_far bytes told start)
+pub read_none : {S : Type 0} (left : S → Told) (count : S → ℕ) (n : ℕ) (start : List S) (states : List (State Counts)) (links : Links) → Carried (λ _. []) n states links → ReadSoFar left count n start start 0 states links None
+read_none left count n start states links c = record {
+  own = λ _. [];
+  fault = λ _. None;
+  carried = c;
+  above = λ r le. refl;
+  read = λ r held source lt. absurd (omega (arith, lt));
+  lines = λ r held lt. absurd (omega (arith, lt));
+  untouched = λ r le. refl;
+  rests = λ r held source is at. start_at left start r held source is at;
+  lowest_is = λ r lt. refl;
+}
 
-pub nothing_more : {X : Type 0} (left : X → Told) (sources : List X) (k : ℕ) (now : X) → ((r : ℕ) (s : X) → r < k → slice_get sources r ≡ Some s → NothingLeft (left s)) → NothingLeft (left now)
-    → (r : ℕ) (s : X) → r < k + 1 → slice_get (set sources k now) r ≡ Some s → NothingLeft (left s)
-nothing_more left sources k now before this r s lt at = elim (cases_eq r k) [
-  | inl e ↦ subst (λ (x : _). NothingLeft (left x)) (slice_get-set_same sources k s now (subst (λ i. slice_get (set sources k now) i ≡ Some s) e at)) this
-  | inr ne ↦ before r s (omega (arith, lt, ne)) (sym (slice_get-set_other sources k r now ne) ∙ at)
+pub rests_more : {S : Type 0} (left : S → Told) (start sources : List S) (k : ℕ) (item now : S) → AreRests left (map left start) sources → slice_get start k ≡ Some item → IsRest (left item) (left now) → AreRests left (map left start) (set sources k now)
+rests_more left start sources k item now rests at rest r held source is found = elim (cases_eq r k) [
+  | inl e ↦
+      let same = slice_get-set_same sources k source now (subst (λ i. slice_get (set sources k now) i ≡ Some source) e found) in
+      let first = held_at left start k item held at (subst (λ i. slice_get (map left start) i ≡ Some held) e is) in
+      subst (λ t. IsRest t (left source)) first (subst (λ (x : _). IsRest (left item) (left x)) same rest)
+  | inr ne ↦ rests r held source is (sym (slice_get-set_other sources k r now ne) ∙ found)
 ]
 
--- the fault of a rank's file has its cause
-pub cause_at : {X : Type 0} (left : X → Told) (faults : X → ℕ) (start sources : List X) (k : ℕ) (item now : X) (fault : FileFault) → slice_get start k ≡ Some item → k < length sources → (fault ≡ FileRead → Rose (faults item) (faults now))
-    → OnTooLong (failed (Unit {0}) fault) (HasLongLine (left item)) → HasCause (map left start) (map faults (set sources k now)) (fault_at k fault)
-cause_at left faults start sources k item now FileRead at lt rose long =
-    let is : get_or (map faults (set sources k now)) k 0 ≡ faults now =
-    get_or_from_slice_get (map faults (set sources k now)) k (faults now) 0 (slice_get-map faults (set sources k now) k ∙ ap (option_map faults) (slice_get-set_at sources k now lt)) in
-    omega (arith, is, rose refl)
-cause_at left faults start sources k item now (FileTooLong line) at lt rose long = (left item, slice_get-map left start k ∙ ap (option_map left) at, long)
-cause_at left faults start sources k item now (FileFull at_limit) at lt rose long = tt
-cause_at left faults start sources k item now FileNoMemory at lt rose long = tt
+pub read_more : {S : Type 0} (left : S → Told) (count : S → ℕ) (n : ℕ) (start sources : List S) (k : ℕ) (s1 s2 : List (State Counts)) (l1 l2 : Links) (lowest lowest' : Option (ℕ × InputFault)) (item now : S) (new : Option InputFault)
+    → ReadSoFar left count n start sources k s1 l1 lowest → slice_get start k ≡ Some item → IsSent n k s1 s2 l1 l2 (left item) new → IsRead (left item) (left now) (count now) new → IsRest (left item) (left now)
+    → (lowest ≡ None → lowest' ≡ option_map (λ found. (k, found)) new) → ((found : ℕ × InputFault) → lowest ≡ Some found → lowest' ≡ lowest)
+    → ReadSoFar left count n start (set sources k now) (k + 1) s2 l2 lowest'
+read_more {S} left count n start sources k s1 s2 l1 l2 lowest lowest' item now new so at sent isread rest none some = record {
+  own = with_lines so.own k sent.lines;
+  fault = with_fault so.fault k new;
+  carried = sent.carried so.own so.carried;
+  above = λ r le. with_other so.own k r sent.lines (λ e. omega (arith, le, e)) ∙ so.above r (omega (arith, le));
+  read = λ r held source lt is found. elim (cases_eq r k) [
+    | inl e ↦
+        let same = slice_get-set_same sources k source now (subst (λ i. slice_get (set sources k now) i ≡ Some source) e found) in
+        let first = held_at left start k item held at (subst (λ i. slice_get (map left start) i ≡ Some held) e is) in
+        subst (IsRead held (left source) (count source)) (sym (at_same so.fault k r new e))
+        (subst (λ t. IsRead t (left source) (count source) new) first (subst (λ (x : S). IsRead (left item) (left x) (count x) new) same isread))
+    | inr ne ↦ subst (IsRead held (left source) (count source)) (sym (at_other so.fault k r new ne)) (so.read r held source (omega (arith, lt, ne)) is (sym (slice_get-set_other sources k r now ne) ∙ found))
+  ];
+  lines = λ r held lt no is. elim (cases_eq r k) [
+    | inl e ↦
+        let first = held_at left start k item held at (subst (λ i. slice_get (map left start) i ≡ Some held) e is) in
+        let own_is : with_lines so.own k sent.lines r ≡ sent.lines = with_same so.own k r sent.lines e ∙ ap (λ w. w ++ sent.lines) (so.above r (omega (arith, e))) in
+        subst (λ (w : List (List ℕ)). IfSome held (λ bytes. w ≡ lines_of bytes)) (sym own_is)
+        (subst (λ t. IfSome t (λ bytes. sent.lines ≡ lines_of bytes)) first (sent.all (sym (at_same so.fault k r new e) ∙ no)))
+    | inr ne ↦
+        subst (λ (w : List (List ℕ)). IfSome held (λ bytes. w ≡ lines_of bytes)) (sym (with_other so.own k r sent.lines ne))
+        (so.lines r held (omega (arith, lt, ne)) (sym (at_other so.fault k r new ne) ∙ no) is)
+  ];
+  untouched = λ r le. slice_get-set_other sources k r now (λ e. omega (arith, le, e)) ∙ so.untouched r (omega (arith, le));
+  rests = rests_more left start sources k item now so.rests at rest;
+  lowest_is = lowest_more so.fault k new lowest lowest' so.lowest_is none some;
+}
+
+-- a rank of which nothing was read has sent nothing
+pub unsent : (comms : List (Comm Counts)) (k : ℕ) → ((state : State Counts) → slice_get (states_of comms) k ≡ Some state → state.sent ≡ 0) → get_or (map sent_count_of comms) k 0 ≡ 0
+unsent [] k h = refl
+unsent (x ∷ xs) zero h = h (state_of x) refl
+unsent (x ∷ xs) (suc k) h = unsent xs k h
+
+pub unsent_so_far : {S : Type 0} (left : S → Told) (count : S → ℕ) (n : ℕ) (start sources : List S) (k : ℕ) (comms : List (Comm Counts)) (links : Links) (lowest : Option (ℕ × InputFault)) → ReadSoFar left count n start sources k (states_of comms) links lowest → get_or (map sent_count_of comms) k 0 ≡ 0
+unsent_so_far left count n start sources k comms links lowest so = unsent comms k (λ state at. so.carried.counted k state at ∙ ap length (so.above k (omega arith)))
+
+-- all files were read to their ends
+pub all_read : {S : Type 0} (left : S → Told) (count : S → ℕ) (n : ℕ) (start sources : List S) (k : ℕ) (states : List (State Counts)) (links : Links) → length sources ≡ n → n ≤ k → ReadSoFar left count n start sources k states links None → AllRead left count (map left start) sources
+all_read left count n start sources k states links all end so r held source is at =
+    let within : r < length sources = slice_get_within sources r source at in
+    let lt : r < k = omega (arith, within, all, end) in
+    subst (IsRead held (left source) (count source)) (so.lowest_is r lt) (so.read r held source lt is at)
+
+-- the bytes that a source of the list tells
+told_at : (lefts : List Told) (bytes : List (List ℕ)) (r : ℕ) → AreTold lefts bytes → r < length bytes → (b : List ℕ) × (slice_get bytes r ≡ Some b) × (slice_get lefts r ≡ Some (Some b))
+told_at lefts bytes r told lt = elim (slice_get_cases bytes r).1 [
+  | inl (b, within, is, at) ↦ (b, is, ap (λ (w : List Told). slice_get w r) told ∙ slice_get-map Some bytes r ∙ ap (option_map Some) is)
+  | inr (past, is) ↦ absurd (omega (arith, past, lt))
+]
+
+-- the lines of all files are on their way
+pub all_sent : {S : Type 0} (left : S → Told) (count : S → ℕ) (n : ℕ) (start sources : List S) (k : ℕ) (states : List (State Counts)) (links : Links) → length start ≡ n → n ≤ k → k ≤ n → ReadSoFar left count n start sources k states links None
+    → (bytes : List (List ℕ)) → AreTold (map left start) bytes → Carried (λ rank. get_or (lines_of_each bytes) rank []) n states links
+all_sent left count n start sources k states links all end within so bytes told =
+    let files = lines_of_each bytes in
+    let many : length bytes ≡ n = sym (length-map bytes Some) ∙ sym (ap length told) ∙ length-map start left ∙ all in
+    same_own so.own (λ rank. get_or files rank []) n states links
+    (λ r. elim (cases_lt r n) [
+      | inl lt ↦
+          let b = told_at (map left start) bytes r told (omega (arith, lt, many)) in
+          so.lines r (Some b.0) (omega (arith, lt, end)) (so.lowest_is r (omega (arith, lt, end))) b.2
+          ∙ sym (get_or_from_slice_get files r (lines_of b.0) [] (slice_get-map lines_of bytes r ∙ ap (option_map lines_of) b.1))
+      | inr le ↦ so.above r (omega (arith, le, within)) ∙ sym (get_or_past files r [] (omega (arith, le, many, length-map bytes lines_of)))
+    ])
+    so.carried
+
+-- the lowest fault is told
+pub lowest_told : {S : Type 0} (left : S → Told) (count : S → ℕ) (n : ℕ) (start sources : List S) (k : ℕ) (states : List (State Counts)) (links : Links) (found : ℕ × InputFault) → length sources ≡ n → n ≤ k → k ≤ n → ReadSoFar left count n start sources k states links (Some found)
+    → IsLowestFault left count (map left start) sources found.0 found.1
+lowest_told left count n start sources k states links found all end within so = record {
+  fault = so.fault;
+  read = λ r held source is at. so.read r held source (let w : r < length sources = slice_get_within sources r source at in omega (arith, w, all, end)) is at;
+  within = omega (arith, so.lowest_is.0, all, within);
+  here = so.lowest_is.1;
+  none_below = so.lowest_is.2;
+}
+
+-- a rank's count is full
+pub full_at : {S : Type 0} (left : S → Told) (count : S → ℕ) (start sources : List S) (k : ℕ) (item now : S) (limit : ℕ) → slice_get start k ≡ Some item → k < length sources → IsFull (left item) (count now) limit → IsFullAtRank count (map left start) (set sources k now) k limit
+full_at left count start sources k item now limit at lt full = (left item, now, slice_get-map left start k ∙ ap (option_map left) at, slice_get-set_at sources k now lt, full)

@@ -2,6 +2,7 @@ pub mod AllCounted
 pub mod Carrying
 pub mod Counting
 pub mod Cuts
+pub mod Endings
 pub mod Feeding
 pub mod InOrder
 pub mod Joining

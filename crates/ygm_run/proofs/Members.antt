@@ -1,5 +1,5 @@
 -- What stands in a list: after a first element, behind a map, and in lists joined end to end.
-use Rattle.std.proofs.Common.{◌≡◌, ℕ, suc, zero, ◌<◌, ◌⊎◌, List, [], ◌∷◌, map, length, get_or, Contains, flat_map, inl, inr, refl, ap, subst, arith, ⊎_elim}
+use Rattle.std.proofs.Common.{◌≡◌, ℕ, suc, zero, ◌<◌, ◌⊎◌, List, [], ◌∷◌, map, length, ◌++◌, Some, slice_get, get_or, Contains, flat_map, inl, inr, refl, ap, subst, arith, ⊎_elim}
 use Rattle.std.proofs.lemmas.List.Elements.{Contains-append_left, Contains-append_right, Contains-append_cases}
 
 module _ {X : Type 0} where
@@ -48,3 +48,10 @@ module _ {X : Type 0} where
       (λ first. (0, omega arith, first))
       (λ later. let found = from_joined xss x later in (suc found.0, omega (arith, found.1), found.2))
       (Contains-append_cases xs (flat_map (λ ys. ys) xss) x h)
+
+-- a number that is 0 for each member, and for one more
+pub fresh_more : {X : Type 0} (xs : List X) (new : X) (f : X → ℕ) → ((i : ℕ) (x : X) → slice_get xs i ≡ Some x → f x ≡ 0) → f new ≡ 0 → (i : ℕ) (x : X) → slice_get (xs ++ new ∷ []) i ≡ Some x → f x ≡ 0
+fresh_more [] new f each zero_new zero x at = let e : new ≡ x = cc in subst (λ y. f y ≡ 0) e zero_new
+fresh_more [] new f each zero_new (suc i) x at = cc
+fresh_more (y ∷ ys) new f each zero_new zero x at = each zero x at
+fresh_more (y ∷ ys) new f each zero_new (suc i) x at = fresh_more ys new f (λ j z found. each (suc j) z found) zero_new i x at

@@ -1,12 +1,17 @@
--- Facts about how a run ended.
-use Rattle.std.specs.Prelude.{◌≡◌, ℕ, List, take, ⊤}
+-- How a run ends, and why.
+use Rattle.std.specs.Prelude.{◌≡◌, ◌⊎◌, ℕ, ◌<◌, List, [], Result, Ok, Err, Some, length, map, slice_get, take, ⊤}
 use Rattle.ygm_io.specs.Content.{Told, AppendedTo}
+use Rattle.ygm_io.specs.Faults.{Rose}
+use Rattle.comm_rank.specs.declared.fault.CommFault.{CommFault}
+use Rattle.comm_rank.specs.declared.fault.CommFault.TheVariants.{CountFull as CommFull, NoMemory as CommNoMemory}
+use Rattle.ygm_run.specs.declared.status.InputFault.{InputFault}
+use Rattle.ygm_run.specs.declared.status.InputFault.TheVariants.{Read, Bad}
 use Rattle.ygm_run.specs.declared.status.Status.{Status}
 use Rattle.ygm_run.specs.declared.status.Status.TheVariants.{Done, Usage, OpenFault, ReadFault, BadLine, WriteFault, NoMemory, CountFull}
 use Rattle.ygm_run.specs.declared.tally.JobFault.{JobFault}
-use Rattle.ygm_run.specs.declared.tally.JobFault.TheVariants.{Read as JobRead, TooLong as JobTooLong, CountFull as JobFull, NoMemory as JobNoMemory}
+use Rattle.ygm_run.specs.declared.tally.JobFault.TheVariants.{Input as JobInput, CountFull as JobFull, NoMemory as JobNoMemory}
 use Rattle.ygm_run.specs.declared.words.UsageKind.{UsageKind}
-use Rattle.ygm_run.specs.declared.status.LineWhy.TheVariants.{TooLong}
+use Rattle.ygm_run.specs.Inputs.{AllRead, IsFullAtRank, IsLowestFault}
 
 -- where all was done
 abbrev pub OnDone : Status → Type 0 → Type 0
@@ -41,36 +46,81 @@ UnlessWritten WriteFault P = ⊤
 UnlessWritten NoMemory P = P
 UnlessWritten (CountFull rank at) P = P
 
--- where a file couldn't be opened, it is the one of that number
-abbrev pub IsOpenFaultAt : ℕ → Status → Type 0
-IsOpenFaultAt count Done = ⊤
-IsOpenFaultAt count (Usage kind) = ⊤
-IsOpenFaultAt count (OpenFault file) = file ≡ count
-IsOpenFaultAt count (ReadFault rank) = ⊤
-IsOpenFaultAt count (BadLine rank line why) = ⊤
-IsOpenFaultAt count WriteFault = ⊤
-IsOpenFaultAt count NoMemory = ⊤
-IsOpenFaultAt count (CountFull rank at) = ⊤
-
 -- the front of a text was put behind what was held
 abbrev pub FrontAppended : List ℕ → Told → Told → Type 0
 FrontAppended text before now = (count : ℕ) × AppendedTo (take count text) before now
 
--- The cause of a status: of refused words their kind, of a file that can't be opened what happened there, of a read
--- that failed its rank, of a bad line its rank, of a text that can't be written what happened there.
-abbrev pub HasCauseOf : (UsageKind → Type 0) → Type 0 → (ℕ → Type 0) → (ℕ → Type 0) → Type 0 → Status → Type 0
-HasCauseOf usage opening reading line writing Done = ⊤
-HasCauseOf usage opening reading line writing (Usage kind) = usage kind
-HasCauseOf usage opening reading line writing (OpenFault file) = opening
-HasCauseOf usage opening reading line writing (ReadFault rank) = reading rank
-HasCauseOf usage opening reading line writing (BadLine rank number why) = line rank
-HasCauseOf usage opening reading line writing WriteFault = writing
-HasCauseOf usage opening reading line writing NoMemory = ⊤
-HasCauseOf usage opening reading line writing (CountFull rank at) = ⊤
+-- a text was put behind what was held: the whole of it, or its front where a write failed
+abbrev pub IsNoted : List ℕ → Told → Told → ℕ → ℕ → Type 0
+IsNoted text before now faults faults_now = AppendedTo text before now ⊎ (FrontAppended text before now × Rose faults faults_now)
+
+-- The cause of a status, each refusal's in the order in which refusals stand: of the words, of a file that isn't opened,
+-- of a rank whose count is full, of a rank's input, of a text that isn't written; and what holds where there is none.
+-- Want of memory has no cause that is told.
+abbrev pub EndsBy : (refused : UsageKind → Type 0) (unopened : ℕ → Type 0) (full : ℕ → ℕ → Type 0) (fault : ℕ → InputFault → Type 0) (unwritten done : Type 0) → Status → Type 0
+EndsBy refused unopened full fault unwritten done (Usage kind) = refused kind
+EndsBy refused unopened full fault unwritten done (OpenFault file) = unopened file
+EndsBy refused unopened full fault unwritten done (CountFull rank at) = full rank at
+EndsBy refused unopened full fault unwritten done (ReadFault rank) = fault rank Read
+EndsBy refused unopened full fault unwritten done (BadLine rank line why) = fault rank (Bad line why)
+EndsBy refused unopened full fault unwritten done WriteFault = unwritten
+EndsBy refused unopened full fault unwritten done Done = done
+EndsBy refused unopened full fault unwritten done NoMemory = ⊤
+
+-- the words were accepted, and each file that they name was opened
+abbrev pub Opened : {S : Type 0} → Result (List (List ℕ)) UsageKind → List S → (List (List ℕ) → Type 0) → Type 0
+Opened order sources P = (names : List (List ℕ)) × (order ≡ Ok names) × (length sources ≡ length names) × P names
+
+-- The file of this number is the first that couldn't be opened: those before it were, and not a byte of them was read.
+pub record IsFirstUnopened {S : Type 0} (left : S → Told) (count : S → ℕ) (content : List ℕ → Told) (names : List (List ℕ)) (sources : List S) (file : ℕ) : Type 0 where
+  pub within : file < length names
+  pub opened_before : length sources ≡ file
+  pub unread : map left sources ≡ map content (take file names)
+  pub no_fault : (rank : ℕ) (source : S) → slice_get sources rank ≡ Some source → count source ≡ 0
+
+-- Why a run ended so. Each refusal stands only where none before it does: the words are refused, or were accepted; a file
+-- couldn't be opened, or each was; a rank's count is full; the input of the lowest rank with a fault failed, or all were
+-- read to their ends; the text couldn't be written, or was. `order` is what the words ask for, `content` what the files
+-- hold; a source tells what is left and its count of faults.
+abbrev pub RunEnds : {S : Type 0} → (S → Told) → (S → ℕ) → Result (List (List ℕ)) UsageKind → (List ℕ → Told) → List S → Type 0 → Type 0 → Status → Type 0
+RunEnds left count order content sources opening writing =
+    EndsBy
+    (λ kind. (order ≡ Err kind) × (sources ≡ []))
+    (λ file. (names : List (List ℕ)) × (order ≡ Ok names) × IsFirstUnopened left count content names sources file × opening)
+    (λ rank at. Opened order sources (λ names. IsFullAtRank count (map content names) sources rank at))
+    (λ rank found. Opened order sources (λ names. IsLowestFault left count (map content names) sources rank found))
+    (Opened order sources (λ names. AllRead left count (map content names) sources × writing))
+    (Opened order sources (λ names. AllRead left count (map content names) sources))
+
+-- a status other than want of memory
+abbrev pub UnlessNoMemory : Status → Type 0 → Type 0
+UnlessNoMemory Done P = P
+UnlessNoMemory (Usage kind) P = P
+UnlessNoMemory (OpenFault file) P = P
+UnlessNoMemory (ReadFault rank) P = P
+UnlessNoMemory (BadLine rank line why) P = P
+UnlessNoMemory WriteFault P = P
+UnlessNoMemory NoMemory P = ⊤
+UnlessNoMemory (CountFull rank at) P = P
+
+-- the run is done, or memory was wanting
+abbrev pub IsDoneIfMemory : Status → Type 0
+IsDoneIfMemory status = (status ≡ Done) ⊎ (status ≡ NoMemory)
 
 -- the status of a job that has no text
 abbrev pub status_of : JobFault → Status
-status_of (JobRead rank) = ReadFault rank
-status_of (JobTooLong rank line) = BadLine rank line TooLong
+status_of (JobInput rank Read) = ReadFault rank
+status_of (JobInput rank (Bad line why)) = BadLine rank line why
 status_of (JobFull rank at) = CountFull rank at
 status_of JobNoMemory = NoMemory
+
+-- the cause of a job's fault
+abbrev pub StopsBy : (full : ℕ → ℕ → Type 0) (fault : ℕ → InputFault → Type 0) → JobFault → Type 0
+StopsBy full fault (JobInput rank found) = fault rank found
+StopsBy full fault (JobFull rank at) = full rank at
+StopsBy full fault JobNoMemory = ⊤
+
+-- a rank's fault as one of the job
+abbrev pub fault_of : ℕ → CommFault → JobFault
+fault_of rank (CommFull at) = JobFull rank at
+fault_of rank CommNoMemory = JobNoMemory

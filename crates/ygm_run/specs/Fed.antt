@@ -1,20 +1,20 @@
 -- Lines of a rank's input that were given to the world.
-use Rattle.std.specs.Prelude.{◌≡◌, ℕ, ◌+◌, ◌-◌, ◌*◌, ◌≤◌, ◌^◌, ◌==◌, List, ◌++◌, Option, IfSome, length, if◌then◌else◌, ⊤, Result, Ok, Err}
+use Rattle.std.specs.Prelude.{◌≡◌, ℕ, ◌+◌, ◌-◌, ◌*◌, ◌≤◌, ◌^◌, ◌==◌, List, ◌∷◌, ◌++◌, Option, None, Some, IfSome, length, map, if◌then◌else◌, ⊤, []}
 use Rattle.std.specs.List.{AllByRecursion}
 use Rattle.std.specs.Option.{option_map}
-use Rattle.ygm_io.specs.Content.{Told}
+use Rattle.ygm_io.specs.Content.{Told, NothingLeft}
+use Rattle.ygm_io.specs.Faults.{Rose}
 use Rattle.comm_rank.specs.Links.{Links}
 use Rattle.comm_rank.specs.Runs.{State}
 use Rattle.comm_rank.specs.declared.fault.CommFault.{CommFault}
-use Rattle.comm_rank.specs.declared.fault.CommFault.TheVariants.{CountFull as CommFull, NoMemory as CommNoMemory}
+use Rattle.comm_rank.specs.declared.fault.CommFault.TheVariants.{CountFull, NoMemory}
 use Rattle.counting_set.specs.Counting.{Counts}
-use Rattle.ygm_run.specs.declared.input.FileFault.{FileFault}
-use Rattle.ygm_run.specs.declared.input.FileFault.TheVariants.{Read, TooLong, CountFull, NoMemory}
-use Rattle.ygm_run.specs.declared.line_reader.LineFault.{LineFault}
-use Rattle.ygm_run.specs.declared.line_reader.LineFault.TheVariants.{ReadFault, LineTooLong, NoMemory as LineNoMemory}
+use Rattle.ygm_run.specs.declared.status.InputFault.{InputFault}
+use Rattle.ygm_run.specs.declared.status.InputFault.TheVariants.{Read, Bad}
 use Rattle.ygm_run.specs.Carried.{Carried}
-use Rattle.ygm_run.specs.Lines.{max_line, lines_of}
-use Rattle.ygm_run.specs.Turns.{lines_to_come, raw_lines_to_come}
+use Rattle.ygm_run.specs.Lines.{max_line, lines_of, text_of, StartsTooLong}
+use Rattle.ygm_run.specs.Reading.{Reading}
+use Rattle.ygm_run.specs.Turns.{raw_lines_to_come, to_come}
 
 -- the same lines, and more of a rank
 abbrev pub with_lines : (ℕ → List (List ℕ)) → ℕ → List (List ℕ) → ℕ → List (List ℕ)
@@ -25,39 +25,35 @@ abbrev pub FrontTaken : List (List ℕ) → Option (List (List ℕ)) → Option 
 FrontTaken front before now = before ≡ option_map (λ lines. front ++ lines) now
 
 -- The world was given lines of a rank: they are on their way, and were the first that were to come. None was too long.
-pub record Fed (ranks rank : ℕ) (before after : List (State Counts)) (old new : Links) (held0 held1 : List ℕ) (left0 left1 : Told) : Type 0 where
-  pub lines : List (List ℕ)
+pub record Fed (ranks rank : ℕ) (before after : List (State Counts)) (old new : Links) (reader reader_now : Reading) (left left_now : Told) : Type 0 where
   pub raws : List (List ℕ)
-  pub carried : (own : ℕ → List (List ℕ)) → Carried own ranks before old → Carried (with_lines own rank lines) ranks after new
-  pub texts : FrontTaken lines (lines_to_come held0 left0) (lines_to_come held1 left1)
-  pub taken : FrontTaken raws (raw_lines_to_come held0 left0) (raw_lines_to_come held1 left1)
+  pub carried : (own : ℕ → List (List ℕ)) → Carried own ranks before old → Carried (with_lines own rank (map text_of raws)) ranks after new
+  pub taken : FrontTaken raws (raw_lines_to_come reader.held left) (raw_lines_to_come reader_now.held left_now)
   pub short : AllByRecursion (λ raw. length raw ≤ max_line) raws
+  pub given : reader_now.given ≡ reader.given + length raws
 
 -- a bound on the turns that a rank's input still takes, by the letters that it has sent and the bytes that are held of its next line
 abbrev pub turns_left : ℕ → List ℕ → ℕ
 turns_left sent held = (2 ^ 56 - sent) * 2000000 + (1000000 - length held)
 
--- what a fault of reading lines means for the file
-abbrev pub by_line : LineFault → FileFault
-by_line ReadFault = Read
-by_line (LineTooLong line) = TooLong line
-by_line LineNoMemory = NoMemory
+-- Why the reading of an input ended: all of it was read, a read failed, or the next line has too many bytes. The counts
+-- are the source's of faults, before and now.
+abbrev pub EndedWith : Option InputFault → Reading → Told → ℕ → ℕ → Type 0
+EndedWith None reader left faults faults_now = (reader.held ≡ []) × NothingLeft left × (faults_now ≡ faults)
+EndedWith (Some Read) reader left faults faults_now = Rose faults faults_now
+EndedWith (Some (Bad line why)) reader left faults faults_now = IfSome (to_come reader.held left) StartsTooLong × (line ≡ reader.given + 1) × (faults_now ≡ faults)
 
--- what a fault of a rank means for the file
-abbrev pub by_rank : CommFault → FileFault
-by_rank (CommFull at) = CountFull at
-by_rank CommNoMemory = NoMemory
+-- a line is to come that has no more bytes than a line may have
+abbrev pub HasLine : Option (List (List ℕ)) → Type 0
+HasLine lines = (raw : List ℕ) × (rest : Option (List (List ℕ))) × (length raw ≤ max_line) × (lines ≡ option_map (λ later. raw ∷ later) rest)
 
--- a fact where a line was too long
-abbrev pub OnTooLong : {T : Type 0} → Result T FileFault → Type 0 → Type 0
-OnTooLong (Ok x) P = ⊤
-OnTooLong (Err Read) P = ⊤
-OnTooLong (Err (TooLong line)) P = P
-OnTooLong (Err (CountFull at)) P = ⊤
-OnTooLong (Err NoMemory) P = ⊤
+-- a fact of the limit that a full count gave
+abbrev pub IfFull : CommFault → (ℕ → Type 0) → Type 0
+IfFull (CountFull at) P = P at
+IfFull NoMemory P = ⊤
 
--- The lines of a rank's bytes are on their way.
-pub record IsSent (ranks rank : ℕ) (before after : List (State Counts)) (old new : Links) (left : Told) : Type 0 where
+-- The lines of a rank's bytes are on their way, all of them where the input has no fault.
+pub record IsSent (ranks rank : ℕ) (before after : List (State Counts)) (old new : Links) (left : Told) (fault : Option InputFault) : Type 0 where
   pub lines : List (List ℕ)
   pub carried : (own : ℕ → List (List ℕ)) → Carried own ranks before old → Carried (with_lines own rank lines) ranks after new
-  pub all : IfSome left (λ bytes. lines ≡ lines_of bytes)
+  pub all : fault ≡ None → IfSome left (λ bytes. lines ≡ lines_of bytes)

@@ -1,6 +1,7 @@
 pub mod Carried
 pub mod Ending
 pub mod Fed
+pub mod Inputs
 pub mod Job
 pub mod Lines
 pub mod Notes

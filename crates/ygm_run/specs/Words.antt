@@ -37,3 +37,8 @@ with_ranks (Ok files) =
 abbrev pub order_of : List (List ℕ) → Result (List (List ℕ)) UsageKind
 order_of [] = Err NoJob
 order_of (job ∷ words) = if bytes_eq job (codes "tally") then with_ranks (files_of words) else Err UnknownJob
+
+-- the files of words that are accepted, and none of those that are refused
+abbrev pub named : Result (List (List ℕ)) UsageKind → List (List ℕ)
+named (Ok names) = names
+named (Err kind) = []

@@ -2,6 +2,7 @@
 ghost use Rattle.std.specs.Prelude.{◌≡◌, ◌+◌, ◌-◌, ◌^◌, ◌<◌, ◌≤◌, [], length, min, false, is_some, Some, IfSome, IfOk, IsErrOf};
 ghost use Rattle.ygm_io.specs.Content.{NothingLeft};
 ghost use Rattle.ygm_io.specs.Faults.{Rose};
+ghost use Rattle.ygm_run.specs.Inputs.{IsRest};
 ghost use Rattle.ygm_run.specs.Lines.{LacksLf, StartsTooLong, max_line};
 ghost use Rattle.ygm_run.specs.Turns.{FirstTaken, RawLineTaken, IfLine, OnLine, UnlessLine, OnMore, OnEnd, IfTooLong, UnlessReadFault, EndsOrFails, is_last, to_come, raw_lines_to_come, lines_to_come};
 
@@ -150,6 +151,8 @@ impl LineReader {
         ensures no_memory { IsErrOf result LineFault.NoMemory → self.new ≡ self.old }
         ensures no_memory_source { IsErrOf result LineFault.NoMemory → source.new ≡ source.old }
         ensures done { self.new.done ≡ is_last result }
+        // At most a piece of what is left was taken, from its front.
+        ensures rest { IsRest (S.left source.old) (S.left source.new) }
         ensures tells { is_some (S.left source.new) ≡ is_some (S.left source.old) }
     {
         if let Some(text) = self.pieces.whole_line()? {

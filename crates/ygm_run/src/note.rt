@@ -7,6 +7,12 @@ use crate::status::Status;
 use msg_codec::Body2;
 use std::alloc::{AllocError, Global};
 
+/// The note of a text that couldn't be written. It is there before the first write.
+pub(crate) const WRITE_FAILED: &str = "ygm_run: write failed\n";
+
+/// The note of memory that ran out, for which none is wanted.
+pub(crate) const OUT_OF_MEMORY: &str = "ygm_run: out of memory\n";
+
 /// The text of a status's note.
 fn text_of(alloc: Global, status: &Status, names: &[String]) -> Result<String, AllocError>
     requires { FileIsBelow (length names.now) status.now }
@@ -14,7 +20,7 @@ fn text_of(alloc: Global, status: &Status, names: &[String]) -> Result<String, A
 {
     match status {
         Status::Done => Ok(String::new(alloc)),
-        Status::Usage { kind } => format!(in alloc; "ygm_run: {}\n", kind.text()),
+        Status::Usage { kind } => String::from_str(alloc, kind.note()),
         Status::OpenFault { file } => {
             format!(in alloc; "ygm_run: cannot open {}\n", names[*file as usize])
         }
@@ -22,8 +28,8 @@ fn text_of(alloc: Global, status: &Status, names: &[String]) -> Result<String, A
         Status::BadLine { rank, line, why } => {
             format!(in alloc; "ygm_run: rank {rank} line {line}: {}\n", why.text())
         }
-        Status::WriteFault => format!(in alloc; "ygm_run: write failed\n"),
-        Status::NoMemory => format!(in alloc; "ygm_run: out of memory\n"),
+        Status::WriteFault => String::from_str(alloc, WRITE_FAILED),
+        Status::NoMemory => String::from_str(alloc, OUT_OF_MEMORY),
         Status::CountFull { rank, .. } => {
             format!(in alloc; "ygm_run: rank {rank} is at a limit of its counts\n")
         }

@@ -1,15 +1,16 @@
 //! The top call: from words to a text.
-ghost use Rattle.std.specs.Prelude.{◌≡◌, ◌<◌, ◌≤◌, ◌^◌, ℕ, List, [], Ok, Err, Some, IfErr, OnOk, IsErr, length, map, slice_get, slice_index};
+ghost use Rattle.std.specs.Prelude.{◌≡◌, ◌<◌, ◌≤◌, ◌^◌, ℕ, List, [], Ok, Err, Some, IfErr, OnOk, length, map, slice_get, take};
 ghost use Rattle.ygm_io.specs.Content.{AppendedTo, NothingLeft};
 ghost use Rattle.ygm_io.specs.Faults.{Rose};
-ghost use Rattle.ygm_run.specs.Ending.{FrontAppended, IsOpenFaultAt, OnDone, OnWriteFault, UnlessWritten, HasCauseOf, status_of};
-ghost use Rattle.ygm_run.specs.Job.{AreTold, HasLongLineAt, lines_of_each};
-ghost use Rattle.ygm_run.specs.Notes.{FileIsBelow};
+ghost use Rattle.ygm_run.specs.Ending.{EndsBy, FrontAppended, IsDoneIfMemory, IsFirstUnopened, IsNoted, OnDone, OnWriteFault, RunEnds, UnlessNoMemory, UnlessWritten, status_of};
+ghost use Rattle.ygm_run.specs.Inputs.{AllRead, AreRests, IsFullAtRank, IsLowestFault};
+ghost use Rattle.ygm_run.specs.Job.{AreGood, AreTold, lines_of_each, most_letters};
+ghost use Rattle.ygm_run.specs.Notes.{FileIsBelow, note_text};
 ghost use Rattle.ygm_run.specs.Tally.{tally_text};
-ghost use Rattle.ygm_run.specs.Words.{order_of, texts_of};
+ghost use Rattle.ygm_run.specs.Words.{named, order_of, texts_of};
 
-use crate::note::note_of;
-use crate::status::{Ended, LineWhy, Status};
+use crate::note::{OUT_OF_MEMORY, WRITE_FAILED, note_of};
+use crate::status::{Ended, InputFault, Status};
 use crate::tally::{JobFault, tally};
 use crate::words::read_words;
 use std::alloc::Global;
@@ -21,11 +22,9 @@ impl JobFault {
         ensures { result ≡ status_of self }
     {
         match self {
-            JobFault::Read { rank } => Status::ReadFault { rank },
-            JobFault::TooLong { rank, line } => Status::BadLine {
-                rank,
-                line,
-                why: LineWhy::TooLong,
+            JobFault::Input { rank, fault } => match fault {
+                InputFault::Read => Status::ReadFault { rank },
+                InputFault::Bad { line, why } => Status::BadLine { rank, line, why },
             },
             JobFault::CountFull { rank, at } => Status::CountFull { rank, at },
             JobFault::NoMemory => Status::NoMemory,
@@ -41,13 +40,14 @@ fn open_all<F: Files>(
 ) -> Result<(), Status>
     requires few { length names.now ≤ 32 }
     requires none { sources.old.items ≡ [] }
-    ensures opened { OnOk result (map F.Src.left sources.new.items ≡ map (F.content files.old) (texts_of names.now)) }
+    ensures opened { map F.Src.left sources.new.items ≡ map (F.content files.old) (take (length sources.new.items) (texts_of names.now)) }
+    ensures fresh { (rank : ℕ) (source : F.Src) → slice_get sources.new.items rank ≡ Some source → F.Src.faults source ≡ 0 }
+    ensures within { length sources.new.items ≤ length names.now }
     ensures all { OnOk result (length sources.new.items ≡ length names.now) }
-    ensures cause { IfErr result (HasCauseOf (λ _. ⊥) (Rose (F.faults files.old) (F.faults files.new)) (λ _. ⊥) (λ _. ⊥) ⊥) }
+    ensures cause { IfErr result (EndsBy (λ _. ⊥)
+        (λ file. (file ≡ length sources.new.items) × (file < length names.now) × Rose (F.faults files.old) (F.faults files.new)) (λ _ _. ⊥) (λ _ _. ⊥) ⊥ ⊥) }
     ensures file { IfErr result (FileIsBelow (length names.now)) }
-    ensures not_done { IfErr result (λ status. OnDone status ⊥) }
-    ensures not_written { IfErr result (λ status. OnWriteFault status ⊥) }
-    ensures which { IfErr result (IsOpenFaultAt (length sources.new.items)) }
+    ensures content_stands { (name : List ℕ) → F.content files.new name ≡ F.content files.old name }
 {
     for (file, name) in names.iter().enumerate() {
         match files.open_named(name.as_str()) {
@@ -63,73 +63,109 @@ fn open_all<F: Files>(
     Ok(())
 }
 
-// The text of the sources' lines goes to `out`.
-fn finish<S: Source, O: Sink>(alloc: Global, sources: &mut [S], out: &mut O) -> Status
-    requires some { 1 ≤ length sources.old }
-    requires few { length sources.old ≤ 32 }
-    ensures done { OnDone result ((bytes : List (List ℕ)) → AreTold (map S.left sources.old) bytes
-        → AppendedTo (tally_text (lines_of_each bytes)) (O.holds out.old) (O.holds out.new)) }
-    ensures nothing_left { OnDone result ((rank : ℕ) (source : S) → slice_get sources.new rank ≡ Some source → NothingLeft (S.left source)) }
-    ensures cause { HasCauseOf (λ _. ⊥) ⊥ (λ rank. 0 < slice_index (map S.faults sources.new) rank)
-        (HasLongLineAt (map S.left sources.old)) (Rose (O.faults out.old) (O.faults out.new)) result }
-    ensures front { OnWriteFault result ((bytes : List (List ℕ)) → AreTold (map S.left sources.old) bytes
-        → FrontAppended (tally_text (lines_of_each bytes)) (O.holds out.old) (O.holds out.new)) }
-    ensures nothing_written { UnlessWritten result (O.holds out.new ≡ O.holds out.old) }
-    ensures which { (count : ℕ) → IsOpenFaultAt count result }
-    ensures file { (count : ℕ) → FileIsBelow count result }
+// Tells how the run ended, and answers it. Where memory is wanting for the note, it ended so.
+fn tell<N: Sink>(alloc: Global, status: Status, names: &[String], notes: &mut N) -> Status
+    requires { FileIsBelow (length names.now) status }
+    ensures same { UnlessNoMemory result (result ≡ status) }
+    ensures noted { IsNoted (note_text result (texts_of names.now)) (N.holds notes.old) (N.holds notes.new) (N.faults notes.old) (N.faults notes.new) }
 {
-    match tally(alloc, sources) {
-        Ok(text) => match write_all(out, &text) {
-            Ok(()) => Status::Done,
-            Err(_) => Status::WriteFault,
-        },
-        Err(fault) => fault.status(),
+    match note_of(alloc, &status, names) {
+        Ok(note) => {
+            let _ = write_all(notes, note.as_slice());
+            status
+        }
+        Err(_) => {
+            let _ = write_all(notes, OUT_OF_MEMORY.as_bytes());
+            Status::NoMemory
+        }
     }
 }
 
-// Opens the files of these names and writes the text of their lines.
-fn run_tally<F: Files, O: Sink>(
+// Writes the text. Its note takes no memory, so that it can be told whatever happens.
+fn write_text<O: Sink, N: Sink>(text: &[u8], out: &mut O, notes: &mut N) -> Status
+    ensures ends { EndsBy (λ _. ⊥) (λ _. ⊥) (λ _ _. ⊥) (λ _ _. ⊥) (Rose (O.faults out.old) (O.faults out.new)) (Unit {0}) result }
+    ensures written { UnlessWritten result ⊥ }
+    ensures done { OnDone result (AppendedTo text.now (O.holds out.old) (O.holds out.new)) }
+    ensures front { OnWriteFault result (FrontAppended text.now (O.holds out.old) (O.holds out.new)) }
+    ensures noted { (names : List (List ℕ)) → IsNoted (note_text result names) (N.holds notes.old) (N.holds notes.new) (N.faults notes.old) (N.faults notes.new) }
+{
+    match write_all(out, text) {
+        Ok(()) => Status::Done,
+        Err(_) => {
+            let _ = write_all(notes, WRITE_FAILED.as_bytes());
+            Status::WriteFault
+        }
+    }
+}
+
+// The text of the sources' lines goes to `out`, and how it ended to `notes`.
+fn finish<S: Source, O: Sink, N: Sink>(
+    alloc: Global,
+    names: &[String],
+    sources: &mut [S],
+    out: &mut O,
+    notes: &mut N,
+) -> Status
+    requires some { 1 ≤ length sources.old }
+    requires few { length sources.old ≤ 32 }
+    requires fresh { (rank : ℕ) (source : S) → slice_get sources.old rank ≡ Some source → S.faults source ≡ 0 }
+    ensures ends { EndsBy (λ _. ⊥) (λ _. ⊥) (IsFullAtRank S.faults (map S.left sources.old) sources.new)
+        (IsLowestFault S.left S.faults (map S.left sources.old) sources.new)
+        (AllRead S.left S.faults (map S.left sources.old) sources.new × Rose (O.faults out.old) (O.faults out.new))
+        (AllRead S.left S.faults (map S.left sources.old) sources.new) result }
+    ensures done { OnDone result ((bytes : List (List ℕ)) → AreTold (map S.left sources.old) bytes
+        → AppendedTo (tally_text (lines_of_each bytes)) (O.holds out.old) (O.holds out.new)) }
+    ensures front { OnWriteFault result ((bytes : List (List ℕ)) → AreTold (map S.left sources.old) bytes
+        → FrontAppended (tally_text (lines_of_each bytes)) (O.holds out.old) (O.holds out.new)) }
+    ensures nothing_written { UnlessWritten result (O.holds out.new ≡ O.holds out.old) }
+    ensures rests { AreRests S.left (map S.left sources.old) sources.new }
+    ensures noted { IsNoted (note_text result (texts_of names.now)) (N.holds notes.old) (N.holds notes.new) (N.faults notes.old) (N.faults notes.new) }
+{
+    match tally(alloc, sources) {
+        Ok(text) => write_text(&text, out, notes),
+        Err(fault) => tell(alloc, fault.status(), names, notes),
+    }
+}
+
+// Opens the files of these names, writes the text of their lines, and tells how it ended.
+fn run_tally<F: Files, O: Sink, N: Sink>(
     alloc: Global,
     names: &[String],
     files: &mut F,
     out: &mut O,
+    notes: &mut N,
 ) -> Ended<F::Src>
     requires some { 1 ≤ length names.now }
     requires few { length names.now ≤ 32 }
     ensures done { OnDone result.status ((bytes : List (List ℕ)) → AreTold (map (F.content files.old) (texts_of names.now)) bytes
         → AppendedTo (tally_text (lines_of_each bytes)) (O.holds out.old) (O.holds out.new)) }
-    ensures nothing_left { OnDone result.status ((rank : ℕ) (source : F.Src) → slice_get result.sources.items rank ≡ Some source → NothingLeft (F.Src.left source)) }
-    ensures all { OnDone result.status (length result.sources.items ≡ length names.now) }
     ensures front { OnWriteFault result.status ((bytes : List (List ℕ)) → AreTold (map (F.content files.old) (texts_of names.now)) bytes
         → FrontAppended (tally_text (lines_of_each bytes)) (O.holds out.old) (O.holds out.new)) }
     ensures nothing_written { UnlessWritten result.status (O.holds out.new ≡ O.holds out.old) }
-    ensures which { IsOpenFaultAt (length result.sources.items) result.status }
-    ensures cause { HasCauseOf (λ _. ⊥) (Rose (F.faults files.old) (F.faults files.new)) (λ rank. 0 < slice_index (map F.Src.faults result.sources.items) rank)
-        (HasLongLineAt (map (F.content files.old) (texts_of names.now))) (Rose (O.faults out.old) (O.faults out.new)) result.status }
-    ensures file { FileIsBelow (length names.now) result.status }
+    ensures ends { RunEnds F.Src.left F.Src.faults (Ok (texts_of names.now)) (F.content files.old) result.sources.items
+        (Rose (F.faults files.old) (F.faults files.new)) (Rose (O.faults out.old) (O.faults out.new)) result.status }
+    ensures within { length result.sources.items ≤ length names.now }
+    ensures rests { AreRests F.Src.left (map (F.content files.old) (texts_of names.now)) result.sources.items }
+    ensures content_stands { (name : List ℕ) → F.content files.new name ≡ F.content files.old name }
+    ensures noted { IsNoted (note_text result.status (texts_of names.now)) (N.holds notes.old) (N.holds notes.new) (N.faults notes.old) (N.faults notes.new) }
 {
     let mut sources = Vec::new(alloc);
-    let status = match open_all(names, files, &mut sources) {
-        Ok(()) => finish(alloc, &mut sources, out),
-        Err(status) => status,
-    };
-    Ended { status, sources }
-}
-
-// Tells how the run ended. What can't be told is left out.
-fn tell<N: Sink>(alloc: Global, status: &Status, names: &[String], notes: &mut N)
-    requires { FileIsBelow (length names.now) status.now }
-{
-    if let Ok(note) = note_of(alloc, status, names) {
-        let _ = write_all(notes, note.as_slice());
+    if let Err(status) = open_all(names, files, &mut sources) {
+        let status = tell(alloc, status, names, notes);
+        return Ended { status, sources };
     }
+    let status = finish(alloc, names, &mut sources, out, notes);
+    Ended { status, sources }
 }
 
 /// Runs the job that the words ask for, over the files that they name, and writes its text to `out` and
 /// how it ended to `notes`. There is a rank for each file, all of them on this thread.
 ///
-/// The sources that were opened come back, in the order of the files. Nothing is written to `out` unless
-/// the status is `Done` or `WriteFault`. A failure of `notes` changes no status.
+/// The sources that were opened come back, in the order of the files: none after `Usage`, those before
+/// the one that failed after `OpenFault`, perhaps fewer after `NoMemory`, all of them else. A rank whose
+/// input fails leaves the others to be read. Nothing is written to `out` unless the status is `Done` or
+/// `WriteFault`. A failure of `notes` changes no status; the notes of `Usage`, `WriteFault` and
+/// `NoMemory` take no memory.
 pub fn run<F: Files, O: Sink, N: Sink>(
     alloc: Global,
     words: &[String],
@@ -149,26 +185,31 @@ pub fn run<F: Files, O: Sink, N: Sink>(
         × ((bytes : List (List ℕ)) → AreTold (map (F.content files.old) names) bytes
         → FrontAppended (tally_text (lines_of_each bytes)) (O.holds out.old) (O.holds out.new))) }
     ensures nothing_written { UnlessWritten result.status (O.holds out.new ≡ O.holds out.old) }
-    // Refused words, and none else, are answered so.
+    // Why the run ended so: each refusal, in their order, with its cause, and none without.
+    ensures ends { RunEnds F.Src.left F.Src.faults (order_of (texts_of words.now)) (F.content files.old) result.sources.items
+        (Rose (F.faults files.old) (F.faults files.new)) (Rose (O.faults out.old) (O.faults out.new)) result.status }
+    // Refused words are always answered so, even where memory is wanting.
     ensures usage { IfErr (order_of (texts_of words.now)) (λ kind. result.status ≡ Status.Usage kind) }
-    // The files before the one that couldn't be opened were opened, and none after it.
-    ensures which { IsOpenFaultAt (length result.sources.items) result.status }
-    ensures cause { HasCauseOf (λ kind. order_of (texts_of words.now) ≡ Err kind) (Rose (F.faults files.old) (F.faults files.new))
-        (λ rank. 0 < slice_index (map F.Src.faults result.sources.items) rank)
-        (λ rank. (names : List (List ℕ)) × (order_of (texts_of words.now) ≡ Ok names) × HasLongLineAt (map (F.content files.old) names) rank)
-        (Rose (O.faults out.old) (O.faults out.new)) result.status }
+    // Words that are accepted, files that all hold text, counts within their limits and devices that don't fail: only
+    // memory can be wanting.
+    ensures complete { (names bytes : List (List ℕ)) → order_of (texts_of words.now) ≡ Ok names → AreTold (map (F.content files.old) names) bytes
+        → AreGood bytes → most_letters (lines_of_each bytes) ≤ 2 ^ 56
+        → (Rose (F.faults files.old) (F.faults files.new) → ⊥) → (Rose (O.faults out.old) (O.faults out.new) → ⊥)
+        → ((rank : ℕ) (source : F.Src) → slice_get result.sources.items rank ≡ Some source → F.Src.faults source ≡ 0)
+        → IsDoneIfMemory result.status }
+    // The sources are those of the files in their order, at most one for each, and what is left of each is a rest of it.
+    ensures sources { (names : List (List ℕ)) → order_of (texts_of words.now) ≡ Ok names
+        → (length result.sources.items ≤ length names) × AreRests F.Src.left (map (F.content files.old) names) result.sources.items }
+    ensures content_stands { (name : List ℕ) → F.content files.new name ≡ F.content files.old name }
+    // The status's note is told, whole unless a write of it failed.
+    ensures noted { IsNoted (note_text result.status (named (order_of (texts_of words.now)))) (N.holds notes.old) (N.holds notes.new) (N.faults notes.old) (N.faults notes.new) }
 {
     match read_words(words) {
-        Ok(order) => {
-            let ended = run_tally(alloc, order.names, files, out);
-            tell(alloc, &ended.status, order.names, notes);
-            ended
-        }
+        Ok(order) => run_tally(alloc, order.names, files, out, notes),
         Err(kind) => {
-            let status = Status::Usage { kind };
-            tell(alloc, &status, &words[..0], notes);
+            let _ = write_all(notes, kind.note().as_bytes());
             Ended {
-                status,
+                status: Status::Usage { kind },
                 sources: Vec::new(alloc),
             }
         }

@@ -23,6 +23,15 @@ impl LineWhy {
     }
 }
 
+/// Why a rank's file wasn't read to its end.
+#[derive(Clone, Copy, Debug, PartialEq, Eq)]
+pub enum InputFault {
+    /// A read of the file failed.
+    Read,
+    /// The line of this number, from 1, is the first bad one.
+    Bad { line: u64, why: LineWhy },
+}
+
 /// How a run ends.
 #[derive(Clone, Copy, Debug, PartialEq, Eq)]
 pub enum Status {

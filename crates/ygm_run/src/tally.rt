@@ -1,13 +1,17 @@
 //! The job `tally`: how often each line stands in the files.
 ghost use Rattle.std.specs.Prelude.{◌≡◌, ◌<◌, ◌≤◌, ℕ, List, [], Some, map, length, slice_get, slice_index_or, IfOk, IfErr, OnOk};
+ghost use Rattle.std.specs.Option.{option_map};
 ghost use Rattle.comm_rank.specs.Rank.{states_of};
-ghost use Rattle.ygm_io.specs.Content.{NothingLeft};
 ghost use Rattle.ygm_run.specs.Carried.{Carried};
-ghost use Rattle.ygm_run.specs.Job.{AreTold, HasCause, fault_at, lines_of_each};
+ghost use Rattle.ygm_run.specs.Ending.{StopsBy, fault_of};
+ghost use Rattle.ygm_run.specs.Inputs.{AllRead, AreRests, IsFullAtRank, IsLowestFault};
+ghost use Rattle.ygm_run.specs.Job.{AreTold, lines_of_each};
 ghost use Rattle.ygm_run.specs.Tally.{tally_text};
 
-use crate::input::{FileFault, read_file};
+use crate::input::read_file;
+use crate::status::InputFault;
 use crate::world::World;
+use comm_rank::CommFault;
 use msg_codec::AtLimit;
 use std::alloc::{AllocError, Global};
 use ygm_io::Source;
@@ -15,10 +19,8 @@ use ygm_io::Source;
 /// Why the job has no text.
 #[derive(Clone, Copy, Debug, PartialEq, Eq)]
 pub(crate) enum JobFault {
-    /// A read of the rank's file failed.
-    Read { rank: u32 },
-    /// The line of this number, from 1, of the rank's file has too many bytes.
-    TooLong { rank: u32, line: u64 },
+    /// The fault of a rank's file. No rank below has one.
+    Input { rank: u32, fault: InputFault },
     /// The rank has sent as many letters as it may.
     CountFull { rank: u32, at: AtLimit },
     NoMemory,
@@ -35,51 +37,69 @@ impl From<AllocError> for JobFault {
     }
 }
 
-impl FileFault {
-    // The fault of a rank's file as one of the job.
-    fn at(self, rank: u32) -> JobFault
-        ensures { result ≡ fault_at rank self }
+impl JobFault {
+    // A rank's fault as one of the job.
+    fn of_rank(rank: u32, fault: CommFault) -> JobFault
+        ensures { result ≡ fault_of rank fault }
     {
-        match self {
-            FileFault::Read => JobFault::Read { rank },
-            FileFault::TooLong { line } => JobFault::TooLong { rank, line },
-            FileFault::CountFull(at) => JobFault::CountFull { rank, at },
-            FileFault::NoMemory => JobFault::NoMemory,
+        match fault {
+            CommFault::CountFull(at) => JobFault::CountFull { rank, at },
+            CommFault::NoMemory => JobFault::NoMemory,
         }
     }
 }
 
-// Sends the lines of each source, in the order of ranks.
+// The fault of an input, with its rank.
+fn with_rank(rank: u32, fault: Option<InputFault>) -> Option<(u32, InputFault)>
+    ensures { result ≡ option_map (λ found. (rank, found)) fault }
+{
+    fault.map(|fault| (rank, fault))
+}
+
+// Reads each file, in the order of ranks, and sends its lines. One that has a fault leaves the others to be read, and
+// the fault of the lowest rank is answered.
 fn read_all<S: Source>(alloc: Global, world: &mut World, sources: &mut [S]) -> Result<(), JobFault>
     requires all { length sources.old ≡ world.old.ranks }
+    requires fresh { (rank : ℕ) (source : S) → slice_get sources.old rank ≡ Some source → S.faults source ≡ 0 }
+    requires nothing_sent { Carried (λ _. []) world.old.ranks (states_of world.old.comms.items) world.old.lists }
     ensures sent { OnOk result ((bytes : List (List ℕ)) → AreTold (map S.left sources.old) bytes
-        → Carried (λ _. []) world.old.ranks (states_of world.old.comms.items) world.old.lists
         → Carried (λ rank. slice_index_or (lines_of_each bytes) rank []) world.old.ranks (states_of world.new.comms.items) world.new.lists) }
-    ensures nothing_left { OnOk result ((rank : ℕ) (source : S) → slice_get sources.new rank ≡ Some source → NothingLeft (S.left source)) }
+    ensures read { OnOk result (AllRead S.left S.faults (map S.left sources.old) sources.new) }
+    ensures cause { IfErr result (StopsBy (IsFullAtRank S.faults (map S.left sources.old) sources.new)
+        (IsLowestFault S.left S.faults (map S.left sources.old) sources.new)) }
+    ensures rests { AreRests S.left (map S.left sources.old) sources.new }
     ensures ranks { world.new.ranks ≡ world.old.ranks }
-    ensures cause { IfErr result (HasCause (map S.left sources.old) (map S.faults sources.new)) }
 {
+    let mut lowest = None;
     for rank in 0..world.ranks() {
-        let source = &mut sources[rank as usize];
-        if let Err(fault) = read_file(alloc, world, rank, source) {
-            return Err(fault.at(rank));
-        }
+        let fault = match read_file(alloc, world, rank, &mut sources[rank as usize]) {
+            Ok(fault) => fault,
+            Err(fault) => return Err(JobFault::of_rank(rank, fault)),
+        };
+        lowest = lowest.or(with_rank(rank, fault));
     }
-    Ok(())
+    match lowest {
+        None => Ok(()),
+        Some((rank, fault)) => Err(JobFault::Input { rank, fault }),
+    }
 }
 
-/// The text of the sources' lines: of each rank its own source.
+/// The text of the sources' lines: of each rank its own source, of which nothing was read yet.
 pub(crate) fn tally<S: Source>(alloc: Global, sources: &mut [S]) -> Result<Vec<u8>, JobFault>
     requires some { 0 < length sources.old }
     requires few { length sources.old ≤ 32 }
+    requires fresh { (rank : ℕ) (source : S) → slice_get sources.old rank ≡ Some source → S.faults source ≡ 0 }
     ensures text { IfOk result (λ text. (bytes : List (List ℕ)) → AreTold (map S.left sources.old) bytes → text.items ≡ tally_text (lines_of_each bytes)) }
-    ensures nothing_left { OnOk result ((rank : ℕ) (source : S) → slice_get sources.new rank ≡ Some source → NothingLeft (S.left source)) }
-    ensures cause { IfErr result (HasCause (map S.left sources.old) (map S.faults sources.new)) }
+    ensures read { OnOk result (AllRead S.left S.faults (map S.left sources.old) sources.new) }
+    ensures cause { IfErr result (StopsBy (IsFullAtRank S.faults (map S.left sources.old) sources.new)
+        (IsLowestFault S.left S.faults (map S.left sources.old) sources.new)) }
+    ensures rests { AreRests S.left (map S.left sources.old) sources.new }
 {
     let mut world = World::new(alloc, sources.len() as u32)?;
     read_all(alloc, &mut world, sources)?;
     match world.drain() {
         Ok(()) => Ok(world.text()?),
-        Err(fault) => Err(FileFault::from(fault).at(0)),
+        // A drain is refused for want of memory alone.
+        Err(_) => Err(JobFault::NoMemory),
     }
 }

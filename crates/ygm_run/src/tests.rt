@@ -1,16 +1,16 @@
 //! Whole runs over objects in memory: that they succeed with ample memory, and worked examples.
 use crate::run;
-use crate::status::{LineWhy, Status};
+use crate::status::{Ended, LineWhy, Status};
+use crate::words::UsageKind;
 use std::alloc::{AllocError, Global};
 use std::process::Abort;
 use std::test::Fail;
-use ygm_io::{CalmFiles, CalmSink, MemFiles, MemSink};
+use ygm_io::{CalmFiles, CalmSink, MemFiles, MemSink, MemSource};
 
 // What a run over objects in memory leaves.
 #[derive(Drop)]
 struct Outcome {
-    status: Status,
-    opened: usize,
+    ended: Ended<MemSource>,
     out: MemSink,
     notes: MemSink,
 }
@@ -35,12 +35,7 @@ fn tally(
     let mut out = out;
     let mut notes = MemSink::new(alloc, &[], 1000)?;
     let ended = run(alloc, &words, files, &mut out, &mut notes);
-    Ok(Outcome {
-        status: ended.status,
-        opened: ended.sources.len(),
-        out,
-        notes,
-    })
+    Ok(Outcome { ended, out, notes })
 }
 
 // The text of a run over files that hold these bytes.
@@ -55,8 +50,8 @@ fn text_of(rt: &(impl Abort + AllocGlobal), contents: &[&[u8]], text: &[u8]) -> 
     }
     let out = MemSink::new(rt.alloc(), &[], 1000)?;
     let outcome = tally(rt.alloc(), &mut files, &texts, out)?;
-    assert_eq!(rt; outcome.status, Status::Done);
-    assert_eq!(rt; outcome.opened, contents.len());
+    assert_eq!(rt; outcome.ended.status, Status::Done);
+    assert_eq!(rt; outcome.ended.sources.len(), contents.len());
     assert_eq!(rt; outcome.out.bytes(), text);
     assert_eq!(rt; outcome.notes.bytes(), b"".as_slice());
     Ok(())
@@ -109,43 +104,88 @@ fn calm_files_are_counted(rt: HostRuntime) -> Result<(), Fail> {
     Ok(())
 }
 
-#[test]
-fn each_fault_is_told(rt: HostRuntime) -> Result<(), Fail> {
-    let alloc = rt.alloc();
+// The files `f0` and `f1` of the worked run, with these reads of `f1` failing.
+fn two_files(alloc: Global, fails: &[u64]) -> Result<MemFiles, AllocError> {
     let mut files = MemFiles::new(alloc);
     files.add("f0", b"b\na\nb\n", &[])?;
-    files.add("f1", b"a\nb", &[0])?;
+    files.add("f1", b"a\nb", fails)?;
+    Ok(files)
+}
+
+#[test]
+fn a_job_without_files_is_refused(rt: HostRuntime) -> Result<(), Fail> {
+    let alloc = rt.alloc();
     let out = MemSink::new(alloc, &[], 3)?;
-    let outcome = tally(alloc, &mut files, &["tally", "f0", "f1"], out)?;
-    assert_eq!(rt; outcome.status, Status::ReadFault { rank: 1 });
+    let outcome = tally(alloc, &mut two_files(alloc, &[])?, &["tally"], out)?;
+    let kind = UsageKind::NoFile;
+    assert_eq!(rt; outcome.ended.status, Status::Usage { kind });
+    assert_eq!(rt; outcome.ended.status.number(), 1);
+    assert_eq!(rt; outcome.ended.sources.len(), 0);
+    assert_eq!(rt; outcome.out.bytes(), b"".as_slice());
+    assert_eq!(rt; outcome.notes.bytes(), b"ygm_run: no file\n".as_slice());
+    Ok(())
+}
+
+#[test]
+fn a_read_that_fails_is_told_with_its_rank(rt: HostRuntime) -> Result<(), Fail> {
+    let alloc = rt.alloc();
+    let out = MemSink::new(alloc, &[], 3)?;
+    let outcome = tally(
+        alloc,
+        &mut two_files(alloc, &[0])?,
+        &["tally", "f0", "f1"],
+        out,
+    )?;
+    assert_eq!(rt; outcome.ended.status, Status::ReadFault { rank: 1 });
+    assert_eq!(rt; outcome.ended.status.number(), 3);
+    assert_eq!(rt; outcome.ended.sources.len(), 2);
+    assert_eq!(rt; outcome.ended.sources[1].faults(), 1);
     assert_eq!(rt; outcome.out.bytes(), b"".as_slice());
     assert_eq!(rt;
         outcome.notes.bytes(),
         b"ygm_run: read failed at rank 1\n".as_slice()
     );
+    Ok(())
+}
 
+#[test]
+fn a_write_that_fails_leaves_the_front_of_the_text(rt: HostRuntime) -> Result<(), Fail> {
+    let alloc = rt.alloc();
     let out = MemSink::new(alloc, &[1], 3)?;
-    let outcome = tally(alloc, &mut files, &["tally", "f0"], out)?;
-    assert_eq!(rt; outcome.status, Status::WriteFault);
-    assert_eq!(rt; outcome.out.bytes(), b"1\ta".as_slice());
+    let outcome = tally(
+        alloc,
+        &mut two_files(alloc, &[])?,
+        &["tally", "f0", "f1"],
+        out,
+    )?;
+    assert_eq!(rt; outcome.ended.status, Status::WriteFault);
+    assert_eq!(rt; outcome.ended.status.number(), 5);
+    assert_eq!(rt; outcome.ended.sources.len(), 2);
+    assert_eq!(rt; outcome.out.bytes(), b"2\ta".as_slice());
     assert_eq!(rt;
         outcome.notes.bytes(),
         b"ygm_run: write failed\n".as_slice()
     );
+    Ok(())
+}
 
+#[test]
+fn an_open_that_fails_is_the_last(rt: HostRuntime) -> Result<(), Fail> {
+    let alloc = rt.alloc();
+    let mut files = two_files(alloc, &[])?;
+    files.add("f2", b"c\n", &[])?;
+    files.fail_open(1)?;
     let out = MemSink::new(alloc, &[], 3)?;
-    let outcome = tally(alloc, &mut files, &["tally", "f0", "nowhere", "f0"], out)?;
-    assert_eq!(rt; outcome.status, Status::OpenFault { file: 1 });
-    assert_eq!(rt; outcome.opened, 1);
+    let outcome = tally(alloc, &mut files, &["tally", "f0", "nowhere", "f2"], out)?;
+    assert_eq!(rt; outcome.ended.status, Status::OpenFault { file: 1 });
+    assert_eq!(rt; outcome.ended.status.number(), 2);
+    assert_eq!(rt; outcome.ended.sources.len(), 1);
+    assert_eq!(rt; outcome.ended.sources[0].left(), b"b\na\nb\n".as_slice());
+    assert_eq!(rt; outcome.out.bytes(), b"".as_slice());
     assert_eq!(rt;
         outcome.notes.bytes(),
         b"ygm_run: cannot open nowhere\n".as_slice()
     );
-
-    let out = MemSink::new(alloc, &[], 3)?;
-    let outcome = tally(alloc, &mut files, &["tally"], out)?;
-    assert_eq!(rt; outcome.opened, 0);
-    assert_eq!(rt; outcome.notes.bytes(), b"ygm_run: no file\n".as_slice());
     Ok(())
 }
 
@@ -158,12 +198,61 @@ fn a_line_of_a_million_bytes_and_one_is_bad(rt: HostRuntime) -> Result<(), Fail>
     let outcome = tally(alloc, &mut files, &["tally", "f0"], out)?;
     let why = LineWhy::TooLong;
     assert_eq!(rt;
-        outcome.status,
+        outcome.ended.status,
         Status::BadLine {
             rank: 0,
             line: 1,
             why
         }
     );
+    assert_eq!(rt; outcome.ended.status.number(), 4);
+    Ok(())
+}
+
+#[test]
+fn the_fault_of_the_lowest_rank_is_told_and_the_others_read_on(
+    rt: HostRuntime,
+) -> Result<(), Fail> {
+    let alloc = rt.alloc();
+    let mut long = Vec::from_slice(alloc, b"a\n")?;
+    long.extend_from_slice(&vec![in alloc; b'x'; 1_000_001]?)?;
+    let mut files = MemFiles::new(alloc);
+    files.add("f0", b"a\n", &[])?;
+    files.add("f1", &long, &[])?;
+    files.add("f2", b"a\n", &[0])?;
+    files.add("f3", b"a\n", &[])?;
+    let out = MemSink::new(alloc, &[], 3)?;
+    let words = ["tally", "f0", "f1", "f2", "f3"];
+    let outcome = tally(alloc, &mut files, &words, out)?;
+    let why = LineWhy::TooLong;
+    assert_eq!(rt;
+        outcome.ended.status,
+        Status::BadLine {
+            rank: 1,
+            line: 2,
+            why
+        }
+    );
+    assert_eq!(rt; outcome.ended.sources.len(), 4);
+    assert_eq!(rt; outcome.ended.sources[2].faults(), 1);
+    assert_eq!(rt; outcome.ended.sources[3].left(), b"".as_slice());
+    assert_eq!(rt; outcome.out.bytes(), b"".as_slice());
+    assert_eq!(rt;
+        outcome.notes.bytes(),
+        b"ygm_run: rank 1 line 2: line too long\n".as_slice()
+    );
+    Ok(())
+}
+
+#[test]
+fn notes_that_fail_change_no_status(rt: HostRuntime) -> Result<(), Fail> {
+    let alloc = rt.alloc();
+    let words = words_of(alloc, &["tally", "f1"])?;
+    let mut out = MemSink::new(alloc, &[], 3)?;
+    let mut notes = MemSink::new(alloc, &[1], 9)?;
+    let mut files = two_files(alloc, &[0])?;
+    let ended = run(alloc, &words, &mut files, &mut out, &mut notes);
+    assert_eq!(rt; ended.status, Status::ReadFault { rank: 0 });
+    assert_eq!(rt; notes.bytes(), b"ygm_run: ".as_slice());
     Ok(())
 }

@@ -1,5 +1,6 @@
 //! The words that the program is called with: a job and its files.
 ghost use Rattle.std.specs.Prelude.{◌≡◌, ◌≤◌, Ok, Err, MatchResult, IfOk, length};
+ghost use Rattle.ygm_run.specs.Notes.{note_line};
 ghost use Rattle.ygm_run.specs.Words.{files_of, kind_text, order_of, texts_of};
 
 /// The greatest number of ranks. There is a rank for each file.
@@ -27,16 +28,16 @@ pub enum UsageKind {
 }
 
 impl UsageKind {
-    /// What the note of the refusal says.
-    pub fn text(&self) -> &'static str
-        ensures { result.now ≡ kind_text self.now }
+    /// The line that the program tells of the refusal. No memory is taken.
+    pub fn note(&self) -> &'static str
+        ensures { result.now ≡ note_line (kind_text self.now) }
     {
         match self {
-            UsageKind::NoJob => "no job",
-            UsageKind::UnknownJob => "unknown job",
-            UsageKind::UnknownOption => "unknown option",
-            UsageKind::NoFile => "no file",
-            UsageKind::TooManyRanks => "too many ranks",
+            UsageKind::NoJob => "ygm_run: no job\n",
+            UsageKind::UnknownJob => "ygm_run: unknown job\n",
+            UsageKind::UnknownOption => "ygm_run: unknown option\n",
+            UsageKind::NoFile => "ygm_run: no file\n",
+            UsageKind::TooManyRanks => "ygm_run: too many ranks\n",
         }
     }
 }
@@ -104,7 +105,7 @@ mod tests {
         Ok(words)
     }
 
-    /// The files of the words, joined by spaces, or the refusal's text.
+    /// The files of the words, joined by spaces, or the refusal's note.
     fn reading_of(alloc: Global, texts: &[&str]) -> Result<String, AllocError> {
         let words = words_of(alloc, texts)?;
         let mut reading = String::new(alloc);
@@ -116,7 +117,7 @@ mod tests {
                     reading.push_str(";")?;
                 }
             }
-            Err(kind) => reading.push_str(kind.text())?,
+            Err(kind) => reading.push_str(kind.note())?,
         }
         Ok(reading)
     }
@@ -141,19 +142,19 @@ mod tests {
     fn each_refusal_has_its_place(rt: HostRuntime) -> Result<(), Fail> {
         let alloc = rt.alloc();
         let none = reading_of(alloc, &[])?;
-        assert_eq!(rt; none.as_str(), "no job");
+        assert_eq!(rt; none.as_str(), "ygm_run: no job\n");
         let job = reading_of(alloc, &["frob", "a"])?;
-        assert_eq!(rt; job.as_str(), "unknown job");
+        assert_eq!(rt; job.as_str(), "ygm_run: unknown job\n");
         let job_first = reading_of(alloc, &["frob", "--x"])?;
-        assert_eq!(rt; job_first.as_str(), "unknown job");
+        assert_eq!(rt; job_first.as_str(), "ygm_run: unknown job\n");
         let option = reading_of(alloc, &["tally", "--ranks=2", "a"])?;
-        assert_eq!(rt; option.as_str(), "unknown option");
+        assert_eq!(rt; option.as_str(), "ygm_run: unknown option\n");
         let option_first = reading_of(alloc, &["tally", "--x"])?;
-        assert_eq!(rt; option_first.as_str(), "unknown option");
+        assert_eq!(rt; option_first.as_str(), "ygm_run: unknown option\n");
         let no_file = reading_of(alloc, &["tally"])?;
-        assert_eq!(rt; no_file.as_str(), "no file");
+        assert_eq!(rt; no_file.as_str(), "ygm_run: no file\n");
         let dropped = reading_of(alloc, &["tally", "--"])?;
-        assert_eq!(rt; dropped.as_str(), "no file");
+        assert_eq!(rt; dropped.as_str(), "ygm_run: no file\n");
         Ok(())
     }
 

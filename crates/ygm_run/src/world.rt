@@ -1,5 +1,6 @@
 //! Ranks on one thread, each with its part of a counting set.
 ghost use Rattle.std.specs.Prelude.{◌≡◌, ◌<◌, ◌≤◌, ◌+◌, ◌^◌, ℕ, List, [], ◌++◌, map, length, slice_index, IfOk, IfErr, OnOk, OnErr};
+ghost use Rattle.comm_rank.specs.Fault.{IsFullAt};
 ghost use Rattle.comm_rank.specs.Rank.{states_of, sent_count_of, IsWorld};
 ghost use Rattle.ygm_run.specs.Carried.{AreFresh, Carried, IsQuiet, IsQuietFrom, kept, with_line};
 ghost use Rattle.ygm_run.specs.Tally.{AreCounts, all_lines, pairs_of, tally_text};
@@ -69,6 +70,7 @@ impl World {
             → Carried (with_line own rank line.now) self.old.ranks (states_of self.new.comms.items) self.new.lists) }
         ensures counted { OnOk result (slice_index (map sent_count_of self.new.comms.items) rank ≡ slice_index (map sent_count_of self.old.comms.items) rank + 1) }
         ensures bound { OnOk result (slice_index (map sent_count_of self.new.comms.items) rank ≤ 2 ^ 56) }
+        ensures cause { IfErr result (IsFullAt (slice_index (map sent_count_of self.old.comms.items) rank) (2 ^ 56)) }
         ensures ranks { self.new.ranks ≡ self.old.ranks }
     {
         let comm = &mut self.comms[rank as usize];
@@ -83,6 +85,7 @@ impl World {
         ensures quiet { OnOk result (IsQuietFrom self.new.lists caller) }
         ensures stays { OnOk result ((from : ℕ) → from < self.old.ranks → IsQuietFrom self.old.lists from → IsQuietFrom self.new.lists from) }
         ensures counted { OnOk result (map sent_count_of self.new.comms.items ≡ map sent_count_of self.old.comms.items) }
+        ensures cause { IfErr result (λ fault. fault ≡ CommFault.NoMemory) }
         ensures ranks { self.new.ranks ≡ self.old.ranks }
     {
         settle(self.alloc, &mut self.comms, &mut self.lists, caller)
@@ -97,6 +100,7 @@ impl World {
             → Carried (with_line own rank line.now) self.old.ranks (states_of self.new.comms.items) self.new.lists) }
         ensures counted { OnOk result (slice_index (map sent_count_of self.new.comms.items) rank ≡ slice_index (map sent_count_of self.old.comms.items) rank + 1) }
         ensures bound { OnOk result (slice_index (map sent_count_of self.new.comms.items) rank ≤ 2 ^ 56) }
+        ensures cause { IfErr result (IsFullAt (slice_index (map sent_count_of self.old.comms.items) rank) (2 ^ 56)) }
         ensures ranks { self.new.ranks ≡ self.old.ranks }
     {
         self.insert(rank, line)?;
@@ -106,11 +110,12 @@ impl World {
         Ok(())
     }
 
-    /// Runs until no letter waits.
+    /// Runs until no letter waits. Counting sends no letters, so that want of memory alone refuses it.
     pub(crate) fn drain(&mut self) -> Result<(), CommFault>
         ensures carried { OnOk result ((own : ℕ → List (List ℕ)) → Carried own self.old.ranks (states_of self.old.comms.items) self.old.lists
             → Carried own self.old.ranks (states_of self.new.comms.items) self.new.lists) }
         ensures quiet { OnOk result (IsQuiet self.new.lists) }
+        ensures cause { IfErr result (λ fault. fault ≡ CommFault.NoMemory) }
         ensures ranks { self.new.ranks ≡ self.old.ranks }
     {
         for caller in 0..self.ranks {

@@ -1,39 +1,74 @@
-use Rattle.std.proofs.Common.{◌≡◌, ◌∙◌, Bool, [], refl, ap, subst}
+use Rattle.std.proofs.Common.{◌≡◌, ◌<◌, ◌^◌, ◌∙◌, [], false, length, refl, ap, sym, subst, arith}
 use Rattle.std.proofs.lemmas.Bool.{false≢true}
 use Rattle.std.proofs.lemmas.Result.{err_from_is_err_and}
 use Rattle.comm_rank.specs.Rank.{states_of}
-use Rattle.ygm_run.specs.Fed.{Fed}
+use Rattle.ygm_run.specs.Fed.{EndedWith, Fed}
+use Rattle.ygm_run.specs.Inputs.{IsFull, good_lines}
+use Rattle.ygm_run.specs.Lines.{raw_lines}
 use Rattle.ygm_run.specs.Reading.{Reading}
 use Rattle.ygm_run.specs.Turns.{to_come}
-use Rattle.ygm_run.proofs.Feeding.{fed_nothing, fed_more, fed_too_long, too_long_by}
+use Rattle.ygm_run.proofs.Feeding.{fed_nothing, fed_more, was_read, rest_none, rest_more, full_so, told_so, many_good, all_sent_of}
 use Rattle.ygm_run.proofs.input.read_file.Goals as goal
 
-pub loop-ended-init : goal.loop-ended-init
-loop-ended-init g c =
-    let held : c.in_ok-reader.reader.held ≡ [] = ap (λ (r : Reading). r.held) c.in_ok-reader.ensures in
+pub loop-fault-init : goal.loop-fault-init
+loop-fault-init g c =
+    let fresh = c.in_ok-reader.ensures in
+    let left = g.S.Source.left c.args.source.now in
     record {
-      fed = fed_nothing c.args.world.now.ranks c.args.rank _ _ [] c.in_ok-reader.reader.held (g.S.Source.left c.args.source.now) (g.S.Source.left c.args.source.now) (ap (λ h. to_come h (g.S.Source.left c.args.source.now)) held);
+      fed = fed_nothing c.args.world.now.ranks c.args.rank _ _ (record { held = []; given = 0; done = false }) c.in_ok-reader.reader left left (ap (λ (r : Reading). to_come r.held left) fresh) (ap (λ (r : Reading). r.given) fresh);
       ranks = refl;
-      not_done = λ _. ap (λ (r : Reading). r.done) c.in_ok-reader.ensures;
-      end = λ e. absurd (false≢true e);
-      stands = refl;
+      sent = omega (arith, c.requires.unsent, ap (λ (r : Reading). r.given) fresh);
+      bound = omega (arith, ap (λ (r : Reading). r.given) fresh);
+      going_on = λ _. c.requires.fresh;
+      ended = λ done. absurd (false≢true (sym (ap (λ (r : Reading). r.done) fresh) ∙ done));
+      rest = rest_none left;
     }
 
-pub returns-in_err-ended-clause-too_long : goal.returns-in_err-ended-clause-too_long
-returns-in_err-ended-clause-too_long g c =
-    let p = err_from_is_err_and c.from_residual-in_err-ended.result c.from_residual-in_err-ended.ensures.1 in
+pub returns-in_err-fault-clause-full : goal.returns-in_err-fault-clause-full
+returns-in_err-fault-clause-full g c =
+    let before = c.loop-fault.invariant in
+    let now = c.in_err-fault.ensures in
+    let p = err_from_is_err_and c.from_residual-in_err-fault.result c.from_residual-in_err-fault.ensures.1 in
     rw (p.1, p.2)
-    (too_long_by Bool (Unit {0}) _ _ _ c.in_err-ended.ensures.too_long (fed_too_long _ _ _ _ _ _ _ (g.S.Source.left c.args.source.now) (g.S.Source.left c.loop-ended.source) c.loop-ended.invariant.fed))
+    (full_so _ (IsFull (g.S.Source.left c.args.source.now) (g.S.Source.faults c.take_turn.new.source)) _
+    (λ limit at. record {
+      limit_is = at.0;
+      lines = told_so (λ bytes. length before.fed.raws < length (good_lines (raw_lines bytes))) (λ bytes. 2 ^ 56 < length (good_lines (raw_lines bytes))) (g.S.Source.left c.args.source.now)
+          (λ bytes more. omega (arith, more, at.1, before.sent, before.fed.given))
+          (many_good before.fed.raws c.loop-fault.reader.held (g.S.Source.left c.args.source.now) (g.S.Source.left c.loop-fault.source) before.fed.short before.fed.taken at.3);
+      no_read_failed = at.2 ∙ before.going_on (sym c.done.ensures ∙ c.loop-fault-test.true);
+    })
+    now.full)
 
-pub loop-ended-preserved : goal.loop-ended-preserved
-loop-ended-preserved g c =
-    let before = c.loop-ended.invariant in
-    let now = c.in_ok-ended.ensures in
-    let step = subst (λ n. Fed n c.args.rank (states_of c.loop-ended.world.comms.items) (states_of c.take_turn.new.world.comms.items) c.loop-ended.world.lists c.take_turn.new.world.lists c.loop-ended.reader.held c.take_turn.new.reader.held (g.S.Source.left c.loop-ended.source) (g.S.Source.left c.take_turn.new.source)) before.ranks now.fed in
+pub returns-in_err-fault-clause-rest : goal.returns-in_err-fault-clause-rest
+returns-in_err-fault-clause-rest g c = rest_more (g.S.Source.left c.args.source.now) (g.S.Source.left c.loop-fault.source) (g.S.Source.left c.take_turn.new.source) c.loop-fault.invariant.rest c.take_turn.ensures.rest
+
+pub loop-fault-preserved : goal.loop-fault-preserved
+loop-fault-preserved g c =
+    let before = c.loop-fault.invariant in
+    let now = c.in_ok-fault.ensures in
+    let unfinished : c.loop-fault.reader.done ≡ false = sym c.done.ensures ∙ c.loop-fault-test.true in
+    let step = subst (λ n. Fed n c.args.rank (states_of c.loop-fault.world.comms.items) (states_of c.take_turn.new.world.comms.items) c.loop-fault.world.lists c.take_turn.new.world.lists c.loop-fault.reader c.take_turn.new.reader (g.S.Source.left c.loop-fault.source) (g.S.Source.left c.take_turn.new.source)) before.ranks now.fed in
     record {
       fed = fed_more _ _ _ _ _ _ _ _ _ _ _ _ _ _ before.fed step;
       ranks = now.ranks ∙ before.ranks;
-      not_done = now.open;
-      end = now.ended;
-      stands = now.stands ∙ before.stands;
+      sent = omega (arith, now.sent, before.sent);
+      bound = omega (arith, now.bound (omega (arith, before.sent, before.bound)), now.sent, before.sent);
+      going_on = λ e. now.going_on e ∙ before.going_on unfinished;
+      ended = λ done. subst (λ k. EndedWith c.in_ok-fault.fault c.take_turn.new.reader (g.S.Source.left c.take_turn.new.source) k (g.S.Source.faults c.take_turn.new.source)) (before.going_on unfinished) (now.ended done);
+      rest = rest_more (g.S.Source.left c.args.source.now) (g.S.Source.left c.loop-fault.source) (g.S.Source.left c.take_turn.new.source) before.rest c.take_turn.ensures.rest;
     }
+
+pub returns-clause-sent : goal.returns-clause-sent
+returns-clause-sent g c =
+    let fed = c.loop-fault.invariant.fed in
+    record {
+      lines = _;
+      carried = fed.carried;
+      all = all_sent_of fed.raws c.loop-fault.reader (g.S.Source.left c.args.source.now) (g.S.Source.left c.loop-fault.source) _ _ fed.taken (c.loop-fault.invariant.ended (sym c.done.ensures ∙ c.loop-fault-test.false));
+    }
+
+pub returns-clause-read : goal.returns-clause-read
+returns-clause-read g c =
+    let fed = c.loop-fault.invariant.fed in
+    was_read fed.raws c.loop-fault.reader (g.S.Source.left c.args.source.now) (g.S.Source.left c.loop-fault.source) _ _ fed.short fed.taken (omega (arith, fed.given)) (c.loop-fault.invariant.ended (sym c.done.ensures ∙ c.loop-fault-test.false))

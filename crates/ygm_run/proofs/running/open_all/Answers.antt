@@ -4,6 +4,7 @@ use Rattle.std.specs.Result.{is_ok}
 use Rattle.std.proofs.lemmas.List.{map-append}
 use Rattle.std.proofs.lemmas.Option.{slice_get-map, slice_get_read}
 use Rattle.ygm_run.specs.Words.{texts_of}
+use Rattle.ygm_run.proofs.Members.{fresh_more}
 use Rattle.ygm_run.proofs.Worlds.{take_next}
 use Rattle.ygm_run.proofs.running.open_all.Goals as goal
 
@@ -26,6 +27,7 @@ loop-file-preserved g c =
           ∙ ap (λ w. w ++ left c.in-Ok.source ∷ []) before.opened
           ∙ ap (λ x. map content (take k (texts_of names)) ++ x ∷ []) (c.in-Ok.ensures.bytes ∙ before.same _ ∙ ap content c.as_str.ensures.value)
           ∙ sym (ap (map content) (take_next (texts_of names) k (string_bytes c.index-names-file.result) text) ∙ map-append content (take k (texts_of names)) (string_bytes c.index-names-file.result ∷ []));
+      fresh = λ rank source found. fresh_more old c.in-Ok.source g.F.Src.Source.faults before.fresh c.in-Ok.ensures.fresh rank source (ap (λ w. slice_get w rank) (sym pushed) ∙ found);
       count = ap length pushed ∙ length-append old (c.in-Ok.source ∷ []) ∙ ap (λ n. n + 1) before.count;
       same = λ name. c.in-Ok.ensures.same name ∙ before.same name;
       stands = c.in-Ok.ensures.stands ∙ before.stands;

@@ -1,38 +1,69 @@
-use Rattle.std.proofs.Common.{◌<◌, ◌∙◌, length, get_or, ap, sym, subst, arith}
-use Rattle.std.proofs.lemmas.Option.{slice_get-get_or, slice_get_within}
+use Rattle.std.proofs.Common.{◌<◌, ◌∙◌, length, get_or, refl, ap, sym, subst, arith}
+use Rattle.std.specs.Option.{option_or}
+use Rattle.std.proofs.lemmas.Option.{slice_get-get_or}
 use Rattle.comm_rank.specs.Rank.{states_of}
-use Rattle.comm_rank.proofs.Worlds.{slice_get-set_other}
 use Rattle.ygm_run.specs.Fed.{IsSent}
-use Rattle.ygm_run.proofs.Feeding.{failed}
-use Rattle.ygm_run.proofs.Joining.{sent_more, all_sent, nothing_more, cause_at}
+use Rattle.ygm_run.proofs.Endings.{stops_full}
+use Rattle.ygm_run.proofs.Joining.{ReadSoFar, read_none, read_more, rests_more, unsent_so_far, all_read, all_sent, lowest_told, full_at}
 use Rattle.ygm_run.proofs.tally.read_all.Goals as goal
+
+pub loop-rank-init : goal.loop-rank-init
+loop-rank-init g c = record {
+  so = read_none g.S.Source.left g.S.Source.faults c.args.world.now.ranks c.args.sources.now _ _ c.requires.nothing_sent;
+  ranks = refl;
+}
+
+pub read_file-requires-clause-unsent : goal.read_file-requires-clause-unsent
+read_file-requires-clause-unsent g c = unsent_so_far g.S.Source.left g.S.Source.faults _ _ _ _ c.loop-rank.world.comms.items _ _ c.loop-rank.invariant.so
+
+pub read_file-requires-clause-fresh : goal.read_file-requires-clause-fresh
+read_file-requires-clause-fresh g c =
+    let k = c.loop-rank.rank in
+    let lt : k < length c.loop-rank.sources = omega (arith, c.loop-rank-test.true, c.loop-rank.auto.sources, c.ranks-rank-end.ensures, c.requires.all) in
+    c.requires.fresh k _ (sym (c.loop-rank.invariant.so.untouched k (omega arith)) ∙ slice_get-get_or c.loop-rank.sources k c.index-sources-rank.result lt)
 
 pub returns-in-Err-clause-cause : goal.returns-in-Err-clause-cause
 returns-in-Err-clause-cause g c =
     let k = c.loop-rank.rank in
     let lt : k < length c.loop-rank.sources = omega (arith, c.loop-rank-test.true, c.loop-rank.auto.sources, c.ranks-rank-end.ensures, c.requires.all) in
-    let at = sym (c.loop-rank.invariant.untouched k (omega arith)) ∙ slice_get-get_or c.loop-rank.sources k c.index-sources-rank.result lt in
-    rw c.at.ensures (cause_at g.S.Source.left g.S.Source.faults c.args.sources.now c.loop-rank.sources k _ c.read_file.new.source c.in-Err.fault at lt (λ e. c.in-Err.ensures.cause (ap (failed (Unit {0})) e)) c.in-Err.ensures.too_long)
+    let at = sym (c.loop-rank.invariant.so.untouched k (omega arith)) ∙ slice_get-get_or c.loop-rank.sources k c.index-sources-rank.result lt in
+    rw c.of_rank.ensures
+    (stops_full _ _ k c.in-Err.fault _ (λ limit full. full_at g.S.Source.left g.S.Source.faults c.args.sources.now c.loop-rank.sources k _ c.read_file.new.source limit at lt full) c.in-Err.ensures.full)
+
+pub returns-in-Err-clause-rests : goal.returns-in-Err-clause-rests
+returns-in-Err-clause-rests g c =
+    let k = c.loop-rank.rank in
+    let lt : k < length c.loop-rank.sources = omega (arith, c.loop-rank-test.true, c.loop-rank.auto.sources, c.ranks-rank-end.ensures, c.requires.all) in
+    let at = sym (c.loop-rank.invariant.so.untouched k (omega arith)) ∙ slice_get-get_or c.loop-rank.sources k c.index-sources-rank.result lt in
+    rests_more g.S.Source.left c.args.sources.now c.loop-rank.sources k _ c.read_file.new.source c.loop-rank.invariant.so.rests at c.read_file.ensures.rest
 
 pub loop-rank-preserved : goal.loop-rank-preserved
 loop-rank-preserved g c =
     let k = c.loop-rank.rank in
     let before = c.loop-rank.invariant in
     let lt : k < length c.loop-rank.sources = omega (arith, c.loop-rank-test.true, c.loop-rank.auto.sources, c.ranks-rank-end.ensures, c.requires.all) in
-    let at = sym (before.untouched k (omega arith)) ∙ slice_get-get_or c.loop-rank.sources k c.index-sources-rank.result lt in
-    let sent = subst (λ n. IsSent n k (states_of c.loop-rank.world.comms.items) (states_of c.read_file.new.world.comms.items) c.loop-rank.world.lists c.read_file.new.world.lists (g.S.Source.left (get_or c.loop-rank.sources k c.index-sources-rank.result))) before.ranks c.in_default.ensures.sent in
+    let at = sym (before.so.untouched k (omega arith)) ∙ slice_get-get_or c.loop-rank.sources k c.index-sources-rank.result lt in
+    let sent = subst (λ n. IsSent n k (states_of c.loop-rank.world.comms.items) (states_of c.read_file.new.world.comms.items) c.loop-rank.world.lists c.read_file.new.world.lists (g.S.Source.left (get_or c.loop-rank.sources k c.index-sources-rank.result)) c.in-Ok.fault) before.ranks c.in-Ok.ensures.sent in
     record {
-      sent = sent_more g.S.Source.left c.args.world.now.ranks k c.args.sources.now _ _ _ _ _ _ _ before.sent sent at;
-      untouched = λ r le. slice_get-set_other c.loop-rank.sources k r c.read_file.new.source (λ e. omega (arith, le, e)) ∙ before.untouched r (omega (arith, le));
-      nothing_left = nothing_more g.S.Source.left c.loop-rank.sources k c.read_file.new.source before.nothing_left c.in_default.ensures.nothing_left;
+      so = read_more g.S.Source.left g.S.Source.faults _ c.args.sources.now c.loop-rank.sources k _ _ _ _ c.loop-rank.lowest c.or-lowest.result _ c.read_file.new.source c.in-Ok.fault before.so at sent c.in-Ok.ensures.read c.read_file.ensures.rest
+          (λ e. c.or-lowest.ensures ∙ ap (λ o. option_or o c.with_rank.result) e ∙ c.with_rank.ensures) (λ found e. c.or-lowest.ensures ∙ ap (λ o. option_or o c.with_rank.result) e ∙ sym e);
       ranks = c.read_file.ensures.ranks ∙ before.ranks;
     }
 
-pub returns-clause-sent : goal.returns-clause-sent
-returns-clause-sent g c =
-    all_sent g.S.Source.left c.args.world.now.ranks c.loop-rank.rank c.args.sources.now _ _ _ _ c.requires.all (omega (arith, c.loop-rank-test.false, c.ranks-rank-end.ensures)) c.loop-rank.invariant.sent
+pub returns-in-None-clause-sent : goal.returns-in-None-clause-sent
+returns-in-None-clause-sent g c =
+    let so = subst (ReadSoFar g.S.Source.left g.S.Source.faults c.args.world.now.ranks c.args.sources.now c.loop-rank.sources c.loop-rank.rank (states_of c.loop-rank.world.comms.items) c.loop-rank.world.lists) c.in-None.is c.loop-rank.invariant.so in
+    all_sent g.S.Source.left g.S.Source.faults c.args.world.now.ranks c.args.sources.now c.loop-rank.sources c.loop-rank.rank _ _ c.requires.all
+    (omega (arith, c.loop-rank-test.false, c.ranks-rank-end.ensures)) (omega (arith, c.loop-rank.auto.rank-end, c.ranks-rank-end.ensures)) so
 
-pub returns-clause-nothing_left : goal.returns-clause-nothing_left
-returns-clause-nothing_left g c = λ rank source at.
-    let within : rank < length c.loop-rank.sources = slice_get_within c.loop-rank.sources rank source at in
-    c.loop-rank.invariant.nothing_left rank source (omega (arith, within, c.loop-rank-test.false, c.loop-rank.auto.sources, c.ranks-rank-end.ensures, c.requires.all)) at
+pub returns-in-None-clause-read : goal.returns-in-None-clause-read
+returns-in-None-clause-read g c =
+    let so = subst (ReadSoFar g.S.Source.left g.S.Source.faults c.args.world.now.ranks c.args.sources.now c.loop-rank.sources c.loop-rank.rank (states_of c.loop-rank.world.comms.items) c.loop-rank.world.lists) c.in-None.is c.loop-rank.invariant.so in
+    all_read g.S.Source.left g.S.Source.faults c.args.world.now.ranks c.args.sources.now c.loop-rank.sources c.loop-rank.rank _ _ (omega (arith, c.loop-rank.auto.sources, c.requires.all))
+    (omega (arith, c.loop-rank-test.false, c.ranks-rank-end.ensures)) so
+
+pub returns-in-Some-clause-cause : goal.returns-in-Some-clause-cause
+returns-in-Some-clause-cause g c =
+    let so = subst (ReadSoFar g.S.Source.left g.S.Source.faults c.args.world.now.ranks c.args.sources.now c.loop-rank.sources c.loop-rank.rank (states_of c.loop-rank.world.comms.items) c.loop-rank.world.lists) c.in-Some.is c.loop-rank.invariant.so in
+    lowest_told g.S.Source.left g.S.Source.faults c.args.world.now.ranks c.args.sources.now c.loop-rank.sources c.loop-rank.rank _ _ (c.in-Some.rank, c.in-Some.fault) (omega (arith, c.loop-rank.auto.sources, c.requires.all))
+    (omega (arith, c.loop-rank-test.false, c.ranks-rank-end.ensures)) (omega (arith, c.loop-rank.auto.rank-end, c.ranks-rank-end.ensures)) so

@@ -1,0 +1,233 @@
+-- The cause of an ending, by other causes.
+use Rattle.std.proofs.Common.{◌≡◌, ℕ, zero, suc, ◌<◌, ◌≤◌, ◌^◌, cond, List, [], ◌∷◌, Some, None, Option, Result, Ok, Err, IfSome, length, map, take, get_or, slice_get, refl, ap, sym, ◌∙◌, subst, arith, inl, inr}
+use Rattle.std.specs.Option.{option_map}
+use Rattle.std.proofs.lemmas.Bool.{cases_lt, le-ltb, lt-ltb}
+use Rattle.std.proofs.lemmas.List.{length-map}
+use Rattle.std.proofs.lemmas.List.Folds.{length-flat_map-take}
+use Rattle.std.proofs.lemmas.Option.{slice_get-map, slice_get_cases, slice_get_within, get_or_from_slice_get}
+use Rattle.ygm_io.specs.Content.{Told, NothingLeft}
+use Rattle.comm_rank.specs.declared.fault.CommFault.{CommFault}
+use Rattle.comm_rank.specs.declared.fault.CommFault.TheVariants.{CountFull as CommFull, NoMemory as CommNoMemory}
+use Rattle.ygm_run.specs.declared.status.InputFault.{InputFault}
+use Rattle.ygm_run.specs.declared.status.InputFault.TheVariants.{Read, Bad}
+use Rattle.ygm_run.specs.declared.status.Status.{Status}
+use Rattle.ygm_run.specs.declared.status.Status.TheVariants.{Done, Usage, OpenFault, ReadFault, BadLine, WriteFault, NoMemory, CountFull}
+use Rattle.ygm_run.specs.declared.tally.JobFault.{JobFault}
+use Rattle.ygm_run.specs.declared.tally.JobFault.TheVariants.{Input as JobInput, CountFull as JobFull, NoMemory as JobNoMemory}
+use Rattle.ygm_run.specs.declared.words.UsageKind.{UsageKind}
+use Rattle.ygm_run.specs.Ending.{EndsBy, IsDoneIfMemory, IsFirstUnopened, IsNoted, OnDone, Opened, RunEnds, StopsBy, UnlessNoMemory, UnlessWritten, fault_of, status_of}
+use Rattle.ygm_run.specs.Fed.{IfFull}
+use Rattle.ygm_run.specs.Inputs.{AllRead, AreRests, IsFullAtRank, IsLowestFault, IsRead, IsRest, good_lines}
+use Rattle.ygm_run.specs.Job.{AreGood, AreTold, lines_of_each, most_letters}
+use Rattle.ygm_run.specs.Lines.{max_line, first_too_long, lines_of, raw_lines, text_of}
+use Rattle.ygm_run.specs.Notes.{note_text}
+use Rattle.ygm_run.specs.Tally.{all_lines}
+use Rattle.ygm_run.specs.Words.{named}
+use Rattle.ygm_run.proofs.Feeding.{rest_none}
+
+-- a rank's full count is the job's
+pub stops_full : (full : ℕ → ℕ → Type 0) (input : ℕ → InputFault → Type 0) (rank : ℕ) (fault : CommFault) (P : ℕ → Type 0) → ((limit : ℕ) → P limit → full rank limit) → IfFull fault P → StopsBy full input (fault_of rank fault)
+stops_full full input rank (CommFull at) P f p = f at p
+stops_full full input rank CommNoMemory P f p = tt
+
+-- the status of a job's fault has its cause
+pub ends_stopped : (refused : UsageKind → Type 0) (unopened : ℕ → Type 0) (full : ℕ → ℕ → Type 0) (input : ℕ → InputFault → Type 0) (unwritten done : Type 0) (fault : JobFault) → StopsBy full input fault → EndsBy refused unopened full input unwritten done (status_of fault)
+ends_stopped refused unopened full input unwritten done (JobInput rank Read) p = p
+ends_stopped refused unopened full input unwritten done (JobInput rank (Bad line why)) p = p
+ends_stopped refused unopened full input unwritten done (JobFull rank at) p = p
+ends_stopped refused unopened full input unwritten done JobNoMemory p = tt
+
+-- each cause by another
+pub ends_so : (r1 r2 : UsageKind → Type 0) (o1 o2 : ℕ → Type 0) (f1 f2 : ℕ → ℕ → Type 0) (i1 i2 : ℕ → InputFault → Type 0) (w1 w2 d1 d2 : Type 0)
+    → ((kind : UsageKind) → r1 kind → r2 kind) → ((file : ℕ) → o1 file → o2 file) → ((rank limit : ℕ) → f1 rank limit → f2 rank limit) → ((rank : ℕ) (found : InputFault) → i1 rank found → i2 rank found) → (w1 → w2) → (d1 → d2)
+    → (status : Status) → EndsBy r1 o1 f1 i1 w1 d1 status → EndsBy r2 o2 f2 i2 w2 d2 status
+ends_so r1 r2 o1 o2 f1 f2 i1 i2 w1 w2 d1 d2 r o f i w d (Usage kind) p = r kind p
+ends_so r1 r2 o1 o2 f1 f2 i1 i2 w1 w2 d1 d2 r o f i w d (OpenFault file) p = o file p
+ends_so r1 r2 o1 o2 f1 f2 i1 i2 w1 w2 d1 d2 r o f i w d (CountFull rank at) p = f rank at p
+ends_so r1 r2 o1 o2 f1 f2 i1 i2 w1 w2 d1 d2 r o f i w d (ReadFault rank) p = i rank Read p
+ends_so r1 r2 o1 o2 f1 f2 i1 i2 w1 w2 d1 d2 r o f i w d (BadLine rank line why) p = i rank (Bad line why) p
+ends_so r1 r2 o1 o2 f1 f2 i1 i2 w1 w2 d1 d2 r o f i w d WriteFault p = w p
+ends_so r1 r2 o1 o2 f1 f2 i1 i2 w1 w2 d1 d2 r o f i w d Done p = d p
+ends_so r1 r2 o1 o2 f1 f2 i1 i2 w1 w2 d1 d2 r o f i w d NoMemory p = tt
+
+-- the status that was told has the cause of the one that it tells
+pub ends_told : (refused : UsageKind → Type 0) (unopened : ℕ → Type 0) (full : ℕ → ℕ → Type 0) (input : ℕ → InputFault → Type 0) (unwritten done : Type 0) (told status : Status) → UnlessNoMemory told (told ≡ status) → EndsBy refused unopened full input unwritten done status → EndsBy refused unopened full input unwritten done told
+ends_told r o f i w d Done status same p = subst (EndsBy r o f i w d) (sym same) p
+ends_told r o f i w d (Usage kind) status same p = subst (EndsBy r o f i w d) (sym same) p
+ends_told r o f i w d (OpenFault file) status same p = subst (EndsBy r o f i w d) (sym same) p
+ends_told r o f i w d (ReadFault rank) status same p = subst (EndsBy r o f i w d) (sym same) p
+ends_told r o f i w d (BadLine rank line why) status same p = subst (EndsBy r o f i w d) (sym same) p
+ends_told r o f i w d WriteFault status same p = subst (EndsBy r o f i w d) (sym same) p
+ends_told r o f i w d NoMemory status same p = tt
+ends_told r o f i w d (CountFull rank at) status same p = subst (EndsBy r o f i w d) (sym same) p
+
+-- the note by the files that the words name
+pub noted_under : (order : Result (List (List ℕ)) UsageKind) (names : List (List ℕ)) (status : Status) (before now : Told) (faults faults_now : ℕ) → order ≡ Ok names → IsNoted (note_text status names) before now faults faults_now → IsNoted (note_text status (named order)) before now faults faults_now
+noted_under order names status before now faults faults_now e h = subst (λ o. IsNoted (note_text status (named o)) before now faults faults_now) (sym e) h
+
+-- where something was written, nothing is asked
+pub unless_written : (status : Status) (P : Type 0) → UnlessWritten status ⊥ → UnlessWritten status P
+unless_written Done P h = tt
+unless_written (Usage kind) P h = absurd h
+unless_written (OpenFault file) P h = absurd h
+unless_written (ReadFault rank) P h = absurd h
+unless_written (BadLine rank line why) P h = absurd h
+unless_written WriteFault P h = tt
+unless_written NoMemory P h = absurd h
+unless_written (CountFull rank at) P h = absurd h
+
+module _ {S : Type 0} (left : S → Told) (count : S → ℕ) where
+  -- a run that couldn't open a file
+  pub run_unopened : (names : List (List ℕ)) (content : List ℕ → Told) (sources : List S) (many : ℕ) (opening writing : Type 0) (status : Status) → length names ≡ many
+      → map left sources ≡ map content (take (length sources) names) → ((rank : ℕ) (source : S) → slice_get sources rank ≡ Some source → count source ≡ 0)
+      → EndsBy (λ _. ⊥) (λ file. (file ≡ length sources) × (file < many) × opening) (λ _ _. ⊥) (λ _ _. ⊥) ⊥ ⊥ status → RunEnds left count (Ok names) content sources opening writing status
+  run_unopened names content sources many opening writing status all opened fresh ends =
+      ends_so (λ _. ⊥) (λ kind. (Ok names ≡ Err kind) × (sources ≡ []))
+      (λ file. (file ≡ length sources) × (file < many) × opening) (λ file. (ns : List (List ℕ)) × (Ok names ≡ Ok ns) × IsFirstUnopened left count content ns sources file × opening)
+      (λ _ _. ⊥) (λ rank at. Opened (Ok names) sources (λ ns. IsFullAtRank count (map content ns) sources rank at))
+      (λ _ _. ⊥) (λ rank found. Opened (Ok names) sources (λ ns. IsLowestFault left count (map content ns) sources rank found))
+      ⊥ (Opened (Ok names) sources (λ ns. AllRead left count (map content ns) sources × writing))
+      ⊥ (Opened (Ok names) sources (λ ns. AllRead left count (map content ns) sources))
+      (λ kind h. absurd h)
+      (λ file h. (names, refl, record { within = omega (arith, h.1, all); opened_before = sym h.0; unread = opened ∙ ap (λ k. map content (take k names)) (sym h.0); no_fault = fresh }, h.2))
+      (λ rank at h. absurd h) (λ rank found h. absurd h) (λ h. absurd h) (λ h. absurd h) status ends
+
+  -- a run that opened all files
+  pub run_opened : (names : List (List ℕ)) (content : List ℕ → Told) (helds : List Told) (sources : List S) (opening writing : Type 0) (status : Status) → length sources ≡ length names → helds ≡ map content names
+      → EndsBy (λ _. ⊥) (λ _. ⊥) (IsFullAtRank count helds sources) (IsLowestFault left count helds sources) (AllRead left count helds sources × writing) (AllRead left count helds sources) status
+      → RunEnds left count (Ok names) content sources opening writing status
+  run_opened names content helds sources opening writing status all is ends =
+      let now = subst (λ hs. EndsBy (λ _. ⊥) (λ _. ⊥) (IsFullAtRank count hs sources) (IsLowestFault left count hs sources) (AllRead left count hs sources × writing) (AllRead left count hs sources) status) is ends in
+      ends_so (λ _. ⊥) (λ kind. (Ok names ≡ Err kind) × (sources ≡ []))
+      (λ _. ⊥) (λ file. (ns : List (List ℕ)) × (Ok names ≡ Ok ns) × IsFirstUnopened left count content ns sources file × opening)
+      (IsFullAtRank count (map content names) sources) (λ rank at. Opened (Ok names) sources (λ ns. IsFullAtRank count (map content ns) sources rank at))
+      (IsLowestFault left count (map content names) sources) (λ rank found. Opened (Ok names) sources (λ ns. IsLowestFault left count (map content ns) sources rank found))
+      (AllRead left count (map content names) sources × writing) (Opened (Ok names) sources (λ ns. AllRead left count (map content ns) sources × writing))
+      (AllRead left count (map content names) sources) (Opened (Ok names) sources (λ ns. AllRead left count (map content ns) sources))
+      (λ kind h. absurd h) (λ file h. absurd h) (λ rank at h. (names, refl, all, h)) (λ rank found h. (names, refl, all, h)) (λ h. (names, refl, all, h)) (λ h. (names, refl, all, h)) status now
+
+  -- what the words ask for was written otherwise
+  pub run_under : (order other : Result (List (List ℕ)) UsageKind) (content : List ℕ → Told) (sources : List S) (opening writing : Type 0) (status : Status) → order ≡ other → RunEnds left count other content sources opening writing status → RunEnds left count order content sources opening writing status
+  run_under order other content sources opening writing status e ends = subst (λ o. RunEnds left count o content sources opening writing status) (sym e) ends
+
+  pub run_over : (order : Result (List (List ℕ)) UsageKind) (content : List ℕ → Told) (sources others : List S) (opening writing : Type 0) (status : Status) → sources ≡ others → RunEnds left count order content others opening writing status → RunEnds left count order content sources opening writing status
+  run_over order content sources others opening writing status e ends = subst (λ xs. RunEnds left count order content xs opening writing status) (sym e) ends
+
+  -- of sources of which nothing was read all is left
+  pub rests_unread : (helds : List Told) (sources : List S) (k : ℕ) → map left sources ≡ take k helds → AreRests left helds sources
+  rests_unread helds sources k same r held source is at =
+      let front : slice_get (take k helds) r ≡ Some (left source) = ap (λ (w : List Told). slice_get w r) (sym same) ∙ slice_get-map left sources r ∙ ap (option_map left) at in
+      let whole = in_front helds k r (left source) front in
+      let e : held ≡ left source = one (slice_get helds r) held (left source) is whole in
+      subst (λ t. IsRest t (left source)) (sym e) (rest_none (left source)) where
+        one : (o : Option Told) (x y : Told) → o ≡ Some x → o ≡ Some y → x ≡ y
+        one None x y p q = cc
+        one (Some z) x y p q = cc
+
+        in_front : (xs : List Told) (i j : ℕ) (x : Told) → slice_get (take i xs) j ≡ Some x → slice_get xs j ≡ Some x
+        in_front [] zero j x e = e
+        in_front [] (suc i) j x e = e
+        in_front (y ∷ ys) zero j x e = cc
+        in_front (y ∷ ys) (suc i) zero x e = e
+        in_front (y ∷ ys) (suc i) (suc j) x e = in_front ys i j x e
+
+  -- what the file of a source held
+  held_of : (helds : List Told) (sources : List S) (rank : ℕ) (source : S) → length sources ≡ length helds → slice_get sources rank ≡ Some source → (held : Told) × (slice_get helds rank ≡ Some held)
+  held_of helds sources rank source all at =
+      let within : rank < length sources = slice_get_within sources rank source at in
+      elim (slice_get_cases helds rank).1 [
+        | inl (held, lt, is, get) ↦ (held, is)
+        | inr (past, is) ↦ absurd (omega (arith, past, within, all))
+      ]
+
+  -- where all files were read to their ends, nothing is left
+  pub nothing_left_of : (names : List (List ℕ)) (content : List ℕ → Told) (sources : List S) → length sources ≡ length names → AllRead left count (map content names) sources → (rank : ℕ) (source : S) → slice_get sources rank ≡ Some source → NothingLeft (left source)
+  nothing_left_of names content sources all read rank source at =
+      let held = held_of (map content names) sources rank source (all ∙ sym (length-map names content)) at in
+      (read rank held.0 source held.1 at).to_its_end refl
+
+  pub run_nothing_left : (order : Result (List (List ℕ)) UsageKind) (content : List ℕ → Told) (sources : List S) (opening writing : Type 0) (status : Status) → RunEnds left count order content sources opening writing status → OnDone status ((rank : ℕ) (source : S) → slice_get sources rank ≡ Some source → NothingLeft (left source))
+  run_nothing_left order content sources opening writing Done ends = nothing_left_of ends.0 content sources ends.2 ends.3
+  run_nothing_left order content sources opening writing (Usage kind) ends = tt
+  run_nothing_left order content sources opening writing (OpenFault file) ends = tt
+  run_nothing_left order content sources opening writing (ReadFault rank) ends = tt
+  run_nothing_left order content sources opening writing (BadLine rank line why) ends = tt
+  run_nothing_left order content sources opening writing WriteFault ends = tt
+  run_nothing_left order content sources opening writing NoMemory ends = tt
+  run_nothing_left order content sources opening writing (CountFull rank at) ends = tt
+
+-- good lines are lines
+few_good : (raws : List (List ℕ)) → length (good_lines raws) ≤ length raws
+few_good [] = omega arith
+few_good (raw ∷ raws) = elim (cases_lt max_line (length raw)) [
+  | inl long ↦ subst (λ w. length w ≤ length (raw ∷ raws)) (sym (ap (λ b. cond b [] (raw ∷ good_lines raws)) (lt-ltb max_line (length raw) long))) (omega arith)
+  | inr short ↦ subst (λ w. length w ≤ length (raw ∷ raws)) (sym (ap (λ b. cond b [] (raw ∷ good_lines raws)) (le-ltb max_line (length raw) short))) (omega (arith, few_good raws))
+]
+
+-- the lines of one file are among all
+few_lines : (bytes : List (List ℕ)) (rank : ℕ) (b : List ℕ) → slice_get bytes rank ≡ Some b → length (good_lines (raw_lines b)) ≤ length (all_lines (lines_of_each bytes))
+few_lines bytes rank b at =
+    let files = lines_of_each bytes in
+    let mine : get_or files rank [] ≡ lines_of b = get_or_from_slice_get files rank (lines_of b) [] (slice_get-map lines_of bytes rank ∙ ap (option_map lines_of) at) in
+    let within : rank < length bytes = slice_get_within bytes rank b at in
+    let more = length-flat_map-take (λ (lines : List (List ℕ)). lines) files rank [] (omega (arith, within, length-map bytes lines_of)) in
+    omega (arith, few_good (raw_lines b), length-map (raw_lines b) text_of, more, ap length mine)
+
+good_at : (bytes : List (List ℕ)) (rank : ℕ) (b : List ℕ) → AreGood bytes → slice_get bytes rank ≡ Some b → first_too_long (raw_lines b) ≡ None
+good_at [] rank b good at = cc
+good_at (x ∷ xs) zero b good at = let e : x ≡ b = cc in subst (λ w. first_too_long (raw_lines w) ≡ None) e good.0
+good_at (x ∷ xs) (suc rank) b good at = good_at xs rank b good.1 at
+
+bytes_of : (bytes : List (List ℕ)) (helds : List Told) (rank : ℕ) (held : Told) → AreTold helds bytes → slice_get helds rank ≡ Some held → (b : List ℕ) × (slice_get bytes rank ≡ Some b) × (held ≡ Some b)
+bytes_of bytes helds rank held told at = of (slice_get bytes rank) refl (sym at ∙ ap (λ (w : List Told). slice_get w rank) told ∙ slice_get-map Some bytes rank) where
+  of : (o : Option (List ℕ)) → slice_get bytes rank ≡ o → Some held ≡ option_map Some (slice_get bytes rank) → (b : List ℕ) × (slice_get bytes rank ≡ Some b) × (held ≡ Some b)
+  of None is e = absurd (let f = e ∙ ap (option_map Some) is in cc)
+  of (Some b) is e = let f = e ∙ ap (option_map Some) is in (b, is, cc)
+
+same_names : (order : Result (List (List ℕ)) UsageKind) (names others : List (List ℕ)) → order ≡ Ok names → order ≡ Ok others → others ≡ names
+same_names (Ok ns) names others p q = cc
+same_names (Err kind) names others p q = cc
+
+if_at : (held : Told) (b : List ℕ) (P : List ℕ → Type 0) → held ≡ Some b → IfSome held P → P b
+if_at held b P e h = subst (λ (t : Told). IfSome t P) e h
+
+module _ {S : Type 0} (left : S → Told) (count : S → ℕ) where
+  -- no input has a fault where no read failed and no line is bad
+  no_fault : (bytes : List (List ℕ)) (helds : List Told) (sources : List S) (rank : ℕ) (found : InputFault) → AreTold helds bytes → AreGood bytes → ((rank : ℕ) (source : S) → slice_get sources rank ≡ Some source → count source ≡ 0)
+      → length sources ≡ length helds → IsLowestFault left count helds sources rank found → ⊥
+  no_fault bytes helds sources rank found told good calm all lowest = elim (slice_get_cases sources rank).1 [
+    | inl (source, within, at, get) ↦
+        let held = held_of left count helds sources rank source all at in
+        let b = bytes_of bytes helds rank held.0 told held.1 in
+        let read = subst (IsRead held.0 (left source) (count source)) lowest.here (lowest.read rank held.0 source held.1 at) in
+        none found held.0 (left source) (count source) read (calm rank source at) b.0 b.2 (good_at bytes rank b.0 good b.1)
+    | inr (past, is) ↦ absurd (omega (arith, past, lowest.within))
+  ] where
+    none : (f : InputFault) (held left_now : Told) (n : ℕ) → IsRead held left_now n (Some f) → n ≡ 0 → (b : List ℕ) → held ≡ Some b → first_too_long (raw_lines b) ≡ None → ⊥
+    none Read held left_now n read calm b e g = omega (arith, read.read.0 refl, calm)
+    none (Bad line why) held left_now n read calm b e g = let bad = if_at held b (λ bytes. Some line ≡ first_too_long (raw_lines bytes)) e (read.bad calm) in let f = bad ∙ g in cc
+
+  -- Completeness: nothing fails, all lines are good and few enough.
+  pub run_complete : (order : Result (List (List ℕ)) UsageKind) (content : List ℕ → Told) (sources : List S) (opening writing : Type 0) (status : Status) → RunEnds left count order content sources opening writing status
+      → (names bytes : List (List ℕ)) → order ≡ Ok names → AreTold (map content names) bytes → AreGood bytes → most_letters (lines_of_each bytes) ≤ 2 ^ 56 → (opening → ⊥) → (writing → ⊥)
+      → ((rank : ℕ) (source : S) → slice_get sources rank ≡ Some source → count source ≡ 0) → IsDoneIfMemory status
+  run_complete order content sources opening writing Done ends names bytes is told good few no_open no_write calm = inl refl
+  run_complete order content sources opening writing (Usage kind) ends names bytes is told good few no_open no_write calm = absurd (refused order names kind is ends.0) where
+    refused : (o : Result (List (List ℕ)) UsageKind) (ns : List (List ℕ)) (k : UsageKind) → o ≡ Ok ns → o ≡ Err k → ⊥
+    refused (Ok ns') ns k p q = cc
+    refused (Err k') ns k p q = cc
+  run_complete order content sources opening writing (OpenFault file) ends names bytes is told good few no_open no_write calm = absurd (no_open ends.3)
+  run_complete order content sources opening writing (ReadFault rank) ends names bytes is told good few no_open no_write calm =
+      let same = same_names order names ends.0 is ends.1 in
+      absurd (no_fault bytes (map content names) sources rank Read told good calm (ends.2 ∙ ap length same ∙ sym (length-map names content)) (subst (λ ns. IsLowestFault left count (map content ns) sources rank Read) same ends.3))
+  run_complete order content sources opening writing (BadLine rank line why) ends names bytes is told good few no_open no_write calm =
+      let same = same_names order names ends.0 is ends.1 in
+      absurd (no_fault bytes (map content names) sources rank (Bad line why) told good calm (ends.2 ∙ ap length same ∙ sym (length-map names content)) (subst (λ ns. IsLowestFault left count (map content ns) sources rank (Bad line why)) same ends.3))
+  run_complete order content sources opening writing WriteFault ends names bytes is told good few no_open no_write calm = absurd (no_write ends.3.1)
+  run_complete order content sources opening writing NoMemory ends names bytes is told good few no_open no_write calm = inr refl
+  run_complete order content sources opening writing (CountFull rank at) ends names bytes is told good few no_open no_write calm =
+      let same = same_names order names ends.0 is ends.1 in
+      let full = subst (λ ns. IsFullAtRank count (map content ns) sources rank at) same ends.3 in
+      let b = bytes_of bytes (map content names) rank full.0 told full.2 in
+      let many = if_at full.0 b.0 (λ w. 2 ^ 56 < length (good_lines (raw_lines w))) b.2 full.4.lines in
+      absurd (omega (arith, many, few, few_lines bytes rank b.0 b.1))

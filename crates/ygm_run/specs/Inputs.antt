@@ -1,0 +1,64 @@
+-- How the files of the ranks were read, and which of their faults is told.
+use Rattle.std.specs.Prelude.{◌≡◌, ◌↔◌, ℕ, ◌<◌, ◌^◌, List, [], ◌∷◌, Option, None, Some, IfSome, length, nat_lt, slice_get, if◌then◌else◌}
+use Rattle.ygm_io.specs.Content.{Told, TakenFrom, NothingLeft}
+use Rattle.ygm_run.specs.declared.status.InputFault.{InputFault}
+use Rattle.ygm_run.specs.declared.status.InputFault.TheVariants.{Read, Bad}
+use Rattle.ygm_run.specs.Lines.{max_line, raw_lines, first_too_long}
+
+-- what is left of what was held: some front of it is gone
+abbrev pub IsRest : Told → Told → Type 0
+IsRest held left = (front : List ℕ) × TakenFrom front held left
+
+-- the number of the bad line that was met, if one was
+abbrev pub bad_line : Option InputFault → Option ℕ
+bad_line None = None
+bad_line (Some Read) = None
+bad_line (Some (Bad line why)) = Some line
+
+-- A file was read to its end or to its first fault: what it held, what is left of it, its count of faults, and that fault.
+pub record IsRead (held left : Told) (count : ℕ) (fault : Option InputFault) : Type 0 where
+  -- a read of it failed exactly where its count is above 0
+  pub read : (fault ≡ Some Read) ↔ (0 < count)
+  -- where none failed, the bad line is the first of those that it held, if one is
+  pub bad : count ≡ 0 → IfSome held (λ bytes. bad_line fault ≡ first_too_long (raw_lines bytes))
+  -- without a fault nothing is left
+  pub to_its_end : fault ≡ None → NothingLeft left
+
+-- the raw lines before the first that has too many bytes
+abbrev pub good_lines : List (List ℕ) → List (List ℕ)
+good_lines [] = []
+good_lines (raw ∷ raws) = if nat_lt max_line (length raw) then [] else raw ∷ good_lines raws
+
+-- A rank's count of letters is full, with the limit that its counter gave: its file, which held this and has this count
+-- of faults, gives more lines before a bad one than a rank sends letters.
+pub record IsFull (held : Told) (count limit : ℕ) : Type 0 where
+  pub limit_is : limit ≡ 2 ^ 56
+  pub lines : IfSome held (λ bytes. 2 ^ 56 < length (good_lines (raw_lines bytes)))
+  pub no_read_failed : count ≡ 0
+
+-- the files of sources, in the order of ranks, were read, each with its fault
+abbrev pub AreRead : {S : Type 0} → (S → Told) → (S → ℕ) → List Told → List S → (ℕ → Option InputFault) → Type 0
+AreRead {S} left count helds sources fault =
+    (rank : ℕ) (held : Told) (source : S) → slice_get helds rank ≡ Some held → slice_get sources rank ≡ Some source → IsRead held (left source) (count source) (fault rank)
+
+-- all files were read to their ends
+abbrev pub AllRead : {S : Type 0} → (S → Told) → (S → ℕ) → List Told → List S → Type 0
+AllRead left count helds sources = AreRead left count helds sources (λ rank. None)
+
+-- all files were read, and this fault is that of the lowest rank that has one
+pub record IsLowestFault {S : Type 0} (left : S → Told) (count : S → ℕ) (helds : List Told) (sources : List S) (rank : ℕ) (found : InputFault) : Type 0 where
+  pub fault : ℕ → Option InputFault
+  pub read : AreRead left count helds sources fault
+  pub within : rank < length sources
+  pub here : fault rank ≡ Some found
+  pub none_below : (lower : ℕ) → lower < rank → fault lower ≡ None
+
+-- the count of letters of a rank is full
+abbrev pub IsFullAtRank : {S : Type 0} → (S → ℕ) → List Told → List S → ℕ → ℕ → Type 0
+IsFullAtRank {S} count helds sources rank limit =
+    (held : Told) × (source : S) × (slice_get helds rank ≡ Some held) × (slice_get sources rank ≡ Some source) × IsFull held (count source) limit
+
+-- of each file that was opened a rest is left
+abbrev pub AreRests : {S : Type 0} → (S → Told) → List Told → List S → Type 0
+AreRests {S} left helds sources =
+    (rank : ℕ) (held : Told) (source : S) → slice_get helds rank ≡ Some held → slice_get sources rank ≡ Some source → IsRest held (left source)
