@@ -1,5 +1,5 @@
 //! Many letters in one piece.
-ghost use Rattle.std.specs.Prelude.{All, ◌≡◌, ◌<◌, ◌≤◌, ◌+◌, [], ◌∷◌, ◌++◌, length, drop, slice_get, Some, OnOk, OnErr, is_ok, if◌then◌else◌};
+ghost use Rattle.std.specs.Prelude.{All, ◌≡◌, ◌<◌, ◌≤◌, ◌+◌, [], ◌∷◌, ◌++◌, length, drop, slice_get, Some, IfOk, OnOk, OnErr, is_ok, if◌then◌else◌};
 ghost use Rattle.std.specs.Int.{w32, to_le_bytes};
 ghost use Rattle.msg_codec.specs.Bytes.{AreBytes};
 ghost use Rattle.msg_codec.specs.Letter.{letter_of};
@@ -108,6 +108,16 @@ impl Batch {
         append(&mut self.bytes, &letter)?;
         self.starts.push(start)?;
         Ok(())
+    }
+
+    /// A batch of the same letters.
+    pub(crate) fn copy(&self, alloc: Global) -> Result<Batch, AllocError>
+        ensures { IfOk result (λ batch. batch ≡ self.now) }
+    {
+        Ok(Batch {
+            bytes: Vec::from_slice(alloc, &self.bytes)?,
+            starts: Vec::from_slice(alloc, &self.starts)?,
+        })
     }
 
     /// The number of its letters.

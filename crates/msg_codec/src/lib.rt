@@ -8,6 +8,7 @@ mod counter;
 mod item_count;
 mod laws;
 mod letter;
+mod letters;
 mod whole;
 mod wire;
 
@@ -21,6 +22,7 @@ pub use laws::{
     what_was_put_is_read_again,
 };
 pub use letter::{Letter, LetterRef};
+pub use letters::Letters;
 pub use whole::read_whole;
 pub use wire::{Wire, WireFault};
 

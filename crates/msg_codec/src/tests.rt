@@ -40,6 +40,36 @@ fn a_batch_is_the_spelling_of_its_letters(rt: HostRuntime) -> Result<(), Fail> {
 }
 
 #[test]
+fn letters_are_those_of_their_batch(rt: HostRuntime) -> Result<(), Fail> {
+    let mut batch = Batch::empty(rt.alloc());
+    assert_eq!(rt; Letters::of(rt.alloc(), &batch)?.count(), 0);
+    batch.push(LetterRef {
+        to: 2,
+        from: 0,
+        tag: 1,
+        body: b"ab",
+    })?;
+    batch.push(LetterRef {
+        to: 0,
+        from: 2,
+        tag: 239,
+        body: &[],
+    })?;
+    let letters = Letters::of(rt.alloc(), &batch)?;
+    batch.push(letters.letter_at(0))?;
+    assert_eq!(rt; letters.count(), 2);
+    let copied = letters.copy(rt.alloc())?;
+    assert_eq!(rt; copied.count(), 2);
+    let first = copied.letter_at(0);
+    assert_eq!(rt; (first.to, first.from, first.tag), (2, 0, 1));
+    assert_eq!(rt; first.body, b"ab".as_slice());
+    let second = copied.letter_at(1);
+    assert_eq!(rt; (second.to, second.from, second.tag), (0, 2, 239));
+    assert!(rt; second.body.is_empty());
+    Ok(())
+}
+
+#[test]
 fn a_pair_is_read_as_it_was_put(rt: HostRuntime) -> Result<(), Fail> {
     let mut bytes = Vec::new(rt.alloc());
     let pair = (Body::of(rt.alloc(), b"x")?, 1u64);
