@@ -1,0 +1,110 @@
+-- Logs of a sound world are modest.
+use Rattle.std.proofs.Common.{◌≡◌, ℕ, zero, suc, ◌+◌, ◌*◌, ◌^◌, ◌<◌, ◌≤◌, ◌&&◌, Bool, true, false, nat_lt, nat_eq, ltb-true, lt-ltb, eq-eqb, List, [], ◌∷◌, length, filter, cond, ◌⊎◌, suc-mul, zero-mul, refl, inl, inr, arith, le_trans}
+use Rattle.std.specs.List.{AllByRecursion}
+use Rattle.std.proofs.lemmas.Bool.{cases_lt}
+use Rattle.msg_codec.specs.declared.letter.Letter.{Letter}
+use Rattle.world_core.specs.Log.{letters_put, letters_taken}
+use Rattle.world_core.specs.Modest.{IsLawful, IsWorld}
+use Rattle.world_core.specs.Pairs.{is_data, is_of_pair, of_pair, arrived, pair_put}
+use Rattle.world_core.specs.Sound.{IsOnPath}
+use Rattle.world_core.specs.World.{Logs, log_of, local}
+use Rattle.world_core.proofs.Across.{got_prefix, is_sound}
+use Rattle.world_core.proofs.OnPath.{Base, alone, carried_taken}
+use Rattle.world_core.proofs.Only.{all_taken}
+use Rattle.world_core.proofs.Lists.{prefix_length, all_weaker, and_first, and_second}
+
+longer : {X : Type 0} (x : X) (xs ys : List X) (a b : Bool) → (a ≡ true → b ≡ true) → length xs ≤ length ys → length (cond a (x ∷ xs) xs) ≤ length (cond b (x ∷ ys) ys)
+longer x xs ys true true f le = omega arith
+longer x xs ys true false f le = absurd (let t = f refl in cc)
+longer x xs ys false true f le = omega arith
+longer x xs ys false false f le = le
+
+-- a test that passes wherever another does passes as often
+pub fewer : {X : Type 0} (p q : X → Bool) (xs : List X) → AllByRecursion (λ x. p x ≡ true → q x ≡ true) xs → length (filter p xs) ≤ length (filter q xs)
+fewer p q [] f = omega arith
+fewer p q (x ∷ xs) f = longer x (filter p xs) (filter q xs) (p x) (q x) f.0 (fewer p q xs f.1)
+
+every : {X : Type 0} (P : X → Type 0) (xs : List X) → ((x : X) → P x) → AllByRecursion P xs
+every P [] f = tt
+every P (x ∷ xs) f = (f x, every P xs f)
+
+shared : {X : Type 0} (x : X) (xs ys zs : List X) (a b c : Bool) → (a ≡ true → (b ≡ true) ⊎ (c ≡ true)) → length xs ≤ length ys + length zs →
+    length (cond a (x ∷ xs) xs) ≤ length (cond b (x ∷ ys) ys) + length (cond c (x ∷ zs) zs)
+shared x xs ys zs true true true f le = omega arith
+shared x xs ys zs true true false f le = omega arith
+shared x xs ys zs true false true f le = omega arith
+shared x xs ys zs true false false f le = elim (f refl) [ inl h ↦ absurd cc | inr h ↦ absurd cc ]
+shared x xs ys zs false true true f le = omega arith
+shared x xs ys zs false true false f le = omega arith
+shared x xs ys zs false false true f le = omega arith
+shared x xs ys zs false false false f le = le
+
+-- two tests that between them pass wherever another does
+covered : {X : Type 0} (p q r : X → Bool) → ((x : X) → p x ≡ true → (q x ≡ true) ⊎ (r x ≡ true)) → (xs : List X) → length (filter p xs) ≤ length (filter q xs) + length (filter r xs)
+covered p q r f [] = omega arith
+covered p q r f (x ∷ xs) = shared x (filter p xs) (filter q xs) (filter r xs) (p x) (q x) (r x) (f x) (covered p q r f xs)
+
+-- the letters for a rank from the senders below a number
+abbrev from_below : ℕ → ℕ → Letter → Bool
+from_below here n l = is_data l && nat_eq l.to here && nat_lt l.from n
+
+from_next : (here n : ℕ) (l : Letter) → from_below here (suc n) l ≡ true → (from_below here n l ≡ true) ⊎ (is_of_pair n here l ≡ true)
+from_next here n l h =
+    let data_and_to : (is_data l && nat_eq l.to here) ≡ true = and_first _ _ h in
+    let tag : is_data l ≡ true = and_first _ _ data_and_to in
+    let dest : nat_eq l.to here ≡ true = and_second _ _ data_and_to in
+    let below : l.from < suc n = ltb-true _ _ (and_second _ _ h) in
+    elim (cases_lt l.from n) [
+      | inl less ↦ inl (rw (tag, dest, lt-ltb l.from n less) refl)
+      | inr more ↦ inr (let same : nat_eq l.from n ≡ true = eq-eqb l.from n (omega arith) in rw (tag, same, dest) refl)
+    ]
+
+from_none : (here : ℕ) (l : Letter) → from_below here 0 l ≡ true → ⊥
+from_none here l h = let below : l.from < 0 = ltb-true _ _ (and_second (is_data l && nat_eq l.to here) _ h) in absurd (omega arith)
+
+none_one : {X : Type 0} (x : X) (xs : List X) (a : Bool) → (a ≡ true → ⊥) → length xs ≤ 0 → length (cond a (x ∷ xs) xs) ≤ 0
+none_one x xs true f le = absurd (f refl)
+none_one x xs false f le = le
+
+none_pass : {X : Type 0} (p : X → Bool) → ((x : X) → p x ≡ true → ⊥) → (xs : List X) → length (filter p xs) ≤ 0
+none_pass p f [] = omega arith
+none_pass p f (x ∷ xs) = none_one x (filter p xs) (p x) (f x) (none_pass p f xs)
+
+senders_below : (here most : ℕ) (xs : List Letter) → ((s : ℕ) → length (of_pair s here xs) ≤ most) → (n : ℕ) → length (filter (from_below here n) xs) ≤ n * most
+senders_below here most xs few zero = rw (zero-mul most) (none_pass (from_below here 0) (from_none here) xs)
+senders_below here most xs few (suc n) =
+    let both = covered (from_below here (suc n)) (from_below here n) (is_of_pair n here) (from_next here n) xs in
+    let before = senders_below here most xs few n in
+    let one = few n in
+    rw (suc-mul n most) (omega arith)
+
+module _ (world : Logs) (base : Base world) where
+  -- a rank puts no more letters to one rank than it puts at all
+  pair-own : (s d : ℕ) → length (pair_put s d (log_of world s)) ≤ 2 ^ 56
+  pair-own s d = le_trans (fewer (is_of_pair s d) (λ l. is_data l && nat_eq l.from s) (letters_put (log_of world s)) (every _ _ (λ l h. and_first _ _ h))) (alone world base s).few
+
+  few_of_pair : (here s : ℕ) → length (of_pair s here (letters_taken (log_of world here))) ≤ 2 ^ 56
+  few_of_pair here s = le_trans (prefix_length _ _ (got_prefix world base s here)) (pair-own s here)
+
+  lawful : (here : ℕ) → AllByRecursion (IsLawful (local world here)) (letters_taken (log_of world here))
+  lawful here = all_taken (IsLawful (local world here)) (log_of world here)
+      (λ a. all_weaker _ (IsLawful (local world here)) _ (λ l c. record { destination = lt-ltb _ _ c.lawful.to_within; sender = lt-ltb _ _ c.lawful.from_within; tag = c.lawful.tag }) (carried_taken world base a here))
+
+  few_arrived : (here : ℕ) → length (arrived here (log_of world here)) ≤ 2 ^ 62
+  few_arrived here =
+      let all : AllByRecursion (λ l. (is_data l && nat_eq l.to here) ≡ true → from_below here world.layout.ranks l ≡ true) (letters_taken (log_of world here)) =
+      all_weaker (IsLawful (local world here)) _ (letters_taken (log_of world here)) (λ l c h. rw (h, c.sender) refl) (lawful here) in
+      let a : length (arrived here (log_of world here)) ≤ length (filter (from_below here world.layout.ranks) (letters_taken (log_of world here))) = fewer _ _ _ all in
+      let b : length (filter (from_below here world.layout.ranks) (letters_taken (log_of world here))) ≤ world.layout.ranks * 2 ^ 56 = senders_below here (2 ^ 56) (letters_taken (log_of world here)) (few_of_pair here) world.layout.ranks in
+      let c : world.layout.ranks ≤ 32 = base.laid_out.few_ranks in
+      omega arith
+
+  pub is_world : IsWorld world
+  is_world = record {
+    sound = is_sound world base;
+    modest = λ here _. record {
+      few = few_arrived here;
+      lawful = lawful here;
+      on_path = λ a. all_weaker _ (IsOnPath world.layout world.scheme a here) _ (λ l c _. c.crossed) (carried_taken world base a here);
+    };
+  }

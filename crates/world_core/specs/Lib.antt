@@ -1,0 +1,13 @@
+pub mod Log
+pub mod Pairs
+pub mod Local
+pub mod Rules
+pub mod World
+pub mod Runs
+pub mod Sound
+pub mod Modest
+pub mod Trial
+pub mod Post
+pub mod Plain
+pub mod Desk
+pub mod Worked

@@ -1,0 +1,44 @@
+//! What keeps a world sound. Each law is the contract of a function that does nothing: a caller that calls
+//! it may rely on it. They speak of logs alone, whatever carries the letters.
+ghost use Rattle.std.specs.Prelude.{◌≡◌, ◌<◌, ℕ, List, [], ◌∷◌, None, Some, length, slice_get};
+ghost use Rattle.world_core.specs.Worked.{start, one, having_put};
+ghost use Rattle.world_core.specs.declared.entry.Event.TheVariants.{Put as PutEvent, Take};
+ghost use Rattle.world_core.specs.declared.why.Why.TheVariants.{NothingThere};
+ghost use Rattle.msg_codec.specs.declared.letter.Letter.{Letter};
+ghost use Rattle.ygm_route.specs.declared.scheme.Scheme.{Scheme};
+ghost use Rattle.ygm_route.specs.Layout.{IsLayout, Shape};
+ghost use Rattle.world_core.specs.declared.entry.Entry.TheVariants.{Put, Took};
+ghost use Rattle.world_core.specs.Log.{batches_put, batches_taken};
+ghost use Rattle.world_core.specs.Modest.{IsWorld};
+ghost use Rattle.world_core.specs.Rules.{first_broken};
+ghost use Rattle.world_core.specs.Rules.Deed.{Puts};
+ghost use Rattle.world_core.specs.World.{Logs, fresh, gaining, local, log_of, refusal, after};
+
+/// A world in which nothing happened is sound.
+#[tactic(auto, using(crate::proofs::Kept::fresh_is_world))]
+pub fn a_fresh_world_is_sound()
+    ensures { (layout : Shape) (scheme : Scheme) → IsLayout layout → IsWorld (fresh layout scheme) }
+{}
+
+/// An honest put keeps a sound world. Whether it is honest, the log of the rank that puts says alone.
+pub fn an_honest_put_keeps_a_sound_world()
+    ensures { (world : Logs) (from to : ℕ) (letters : List Letter) → IsWorld world →
+        first_broken (local world from) (Puts to letters) ≡ None →
+        IsWorld (gaining world from (Put to letters)) }
+{}
+
+/// A take of the next number keeps a sound world: of the batch that the sender's log put over the link after
+/// as many as the log of the rank that takes took from there.
+pub fn taking_the_next_batch_keeps_a_sound_world()
+    ensures { (world : Logs) (from to : ℕ) (letters : List Letter) → IsWorld world →
+        slice_get (batches_put to (log_of world from)) (length (batches_taken from (log_of world to))) ≡ Some letters →
+        IsWorld (gaining world to (Took from letters)) }
+{}
+
+/// A worked case of the definitions: of two takes after one put, the second is refused.
+#[tactic(auto, unfolding(crate::specs::Rules::first_broken, crate::specs::Local::to_forward, crate::specs::Local::is_between, ygm_route::specs::Path::path, ygm_route::specs::Hop::hop))]
+pub fn a_second_take_is_refused()
+    ensures put { refusal start (PutEvent 0 1 (one ∷ [])) ≡ None }
+    ensures first { refusal having_put (Take 1 0) ≡ None }
+    ensures second { refusal (after having_put (Take 1 0)) (Take 1 0) ≡ Some NothingThere }
+{}
