@@ -117,7 +117,7 @@ fn finish<S: Source, O: Sink, N: Sink>(
         → AppendedTo (tally_text (lines_of_each bytes)) (O.holds out.old) (O.holds out.new)) }
     ensures front { OnWriteFault result ((bytes : List (List ℕ)) → AreTold (map S.left sources.old) bytes
         → FrontAppended (tally_text (lines_of_each bytes)) (O.holds out.old) (O.holds out.new)) }
-    ensures nothing_written { UnlessWritten result (O.holds out.new ≡ O.holds out.old) }
+    ensures nothing_written { UnlessWritten result (out.new ≡ out.old) }
     ensures rests { AreRests S.left (map S.left sources.old) sources.new }
     ensures noted { IsNoted (note_text result (texts_of names.now)) (N.holds notes.old) (N.holds notes.new) (N.faults notes.old) (N.faults notes.new) }
 {
@@ -141,7 +141,7 @@ fn run_tally<F: Files, O: Sink, N: Sink>(
         → AppendedTo (tally_text (lines_of_each bytes)) (O.holds out.old) (O.holds out.new)) }
     ensures front { OnWriteFault result.status ((bytes : List (List ℕ)) → AreTold (map (F.content files.old) (texts_of names.now)) bytes
         → FrontAppended (tally_text (lines_of_each bytes)) (O.holds out.old) (O.holds out.new)) }
-    ensures nothing_written { UnlessWritten result.status (O.holds out.new ≡ O.holds out.old) }
+    ensures nothing_written { UnlessWritten result.status (out.new ≡ out.old) }
     ensures ends { RunEnds F.Src.left F.Src.faults (Ok (texts_of names.now)) (F.content files.old) result.sources.items
         (Rose (F.faults files.old) (F.faults files.new)) (Rose (O.faults out.old) (O.faults out.new)) result.status }
     ensures within { length result.sources.items ≤ length names.now }
@@ -184,12 +184,14 @@ pub fn run<F: Files, O: Sink, N: Sink>(
     ensures front { OnWriteFault result.status ((names : List (List ℕ)) × (order_of (texts_of words.now) ≡ Ok names)
         × ((bytes : List (List ℕ)) → AreTold (map (F.content files.old) names) bytes
         → FrontAppended (tally_text (lines_of_each bytes)) (O.holds out.old) (O.holds out.new))) }
-    ensures nothing_written { UnlessWritten result.status (O.holds out.new ≡ O.holds out.old) }
+    // Else `out` is as it was: nothing was written, and no write failed.
+    ensures nothing_written { UnlessWritten result.status (out.new ≡ out.old) }
     // Why the run ended so: each refusal, in their order, with its cause, and none without.
     ensures ends { RunEnds F.Src.left F.Src.faults (order_of (texts_of words.now)) (F.content files.old) result.sources.items
         (Rose (F.faults files.old) (F.faults files.new)) (Rose (O.faults out.old) (O.faults out.new)) result.status }
     // Refused words are always answered so, even where memory is wanting.
     ensures usage { IfErr (order_of (texts_of words.now)) (λ kind. result.status ≡ Status.Usage kind) }
+    ensures no_file_for_refused_words { IfErr (order_of (texts_of words.now)) (λ _. files.new ≡ files.old) }
     // Words that are accepted, files that all hold text, counts within their limits and devices that don't fail: only
     // memory can be wanting.
     ensures complete { (names bytes : List (List ℕ)) → order_of (texts_of words.now) ≡ Ok names → AreTold (map (F.content files.old) names) bytes
