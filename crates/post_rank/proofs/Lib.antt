@@ -1,0 +1,15 @@
+pub mod Arriving
+pub mod Beginnings
+pub mod Direct
+pub mod Each
+pub mod Folds
+pub mod Gaining
+pub mod Holding
+pub mod Joining
+pub mod PutOut
+pub mod Puts
+pub mod Queues
+pub mod Sending
+pub mod Singles
+pub mod Taking
+pub mod Turning

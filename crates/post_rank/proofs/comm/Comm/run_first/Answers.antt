@@ -1,0 +1,50 @@
+use Rattle.std.proofs.Common.{◌≡◌, ◌∙◌, [], subst, refl, arith, rules}
+use Rattle.std.specs.List.{AllByRecursion}
+use Rattle.std.proofs.lemmas.Result.{IfErr-weaker}
+use Rattle.msg_codec.specs.Letter.{letter_of}
+use Rattle.post_rank.specs.Sends.{IsData}
+use Rattle.post_rank.proofs.Folds.{on_err, too_many, outs_are, made_are, stuck_refused, stuck_sending, ran_first, more_given}
+use Rattle.post_rank.proofs.comm.Comm.run_first.Goals as goal
+
+pub returns-in_err-run-clause-stuck : goal.returns-in_err-run-clause-stuck
+returns-in_err-run-clause-stuck g c =
+    on_err c.from_residual-in_err-run.result _ ([], stuck_refused g.H.Handler.apply _ _ _ c.self.view_is c.in_err-run.ensures.contents_unchanged refl refl refl)
+
+pub returns-in_err-sent-clause-stuck : goal.returns-in_err-sent-clause-stuck
+returns-in_err-sent-clause-stuck g c =
+    let apply = g.H.Handler.apply in
+    let l = letter_of c.first-letter.result in
+    let here = c.self.inside.here in
+    let ranks : c.self.inside.out.ranks ≡ c.self.inside.layout.ranks = c.self.invariant.3 in
+    let outs = outs_are apply here _ _ c.self.inside.handler l _ _ ranks c.self.invariant.4 c.in_ok-run.ensures.sent in
+    let made = made_are apply here _ _ c.self.inside.handler _ l ranks c.in_ok-run.ensures.contents in
+    let lawful = subst (λ n. AllByRecursion (IsData n) c.run.new.out.letters) (c.run.ensures.ranks ∙ ranks) c.cut.ensures.data in
+    let e = c.in_err-sent.ensures.part in
+    on_err c.from_residual-in_err-sent.result _
+    (stuck_sending apply _ _ _ c.self.view_is c.run.new.out.letters l outs made lawful c.first-letter.ensures e.0 refl e.1 e.2 refl e.3)
+
+pub returns-clause-ran : goal.returns-clause-ran
+returns-clause-ran g c =
+    let apply = g.H.Handler.apply in
+    let l = letter_of c.first-letter.result in
+    let here = c.self.inside.here in
+    let ranks : c.self.inside.out.ranks ≡ c.self.inside.layout.ranks = c.self.invariant.3 in
+    let outs = outs_are apply here _ _ c.self.inside.handler l _ _ ranks c.self.invariant.4 c.in_ok-run.ensures.sent in
+    let made = made_are apply here _ _ c.self.inside.handler _ l ranks c.in_ok-run.ensures.contents in
+    let lawful = subst (λ n. AllByRecursion (IsData n) c.run.new.out.letters) (c.run.ensures.ranks ∙ ranks) c.cut.ensures.data in
+    ran_first apply _ _ _ c.self.view_is c.run.new.out.letters l outs made lawful c.first-letter.ensures c.drop_first-2.ensures c.in_ok-sent.ensures.gains refl c.in_ok-sent.ensures.counted
+
+pub returns-in_err-sent-clause-cause : goal.returns-in_err-sent-clause-cause
+returns-in_err-sent-clause-cause g c = search rules
+
+pub returns-in_err-sent-clause-one_too_many : goal.returns-in_err-sent-clause-one_too_many
+returns-in_err-sent-clause-one_too_many g c =
+    let apply = g.H.Handler.apply in
+    let l = letter_of c.first-letter.result in
+    let ranks : c.self.inside.out.ranks ≡ c.self.inside.layout.ranks = c.self.invariant.3 in
+    let outs = outs_are apply c.self.inside.here _ _ c.self.inside.handler l _ _ ranks c.self.invariant.4 c.in_ok-run.ensures.sent in
+    let e = c.in_err-sent.ensures.part in
+    let more = more_given apply _ _ c.self.view_is c.run.new.out.letters l e.0 outs c.first-letter.ensures e.1 in
+    IfErr-weaker c.from_residual-in_err-sent.result _ _
+    (too_many c.send_out-sent.new.sent.count c.args.self.now.most _ (omega (arith, more, e.3)))
+    (returns-in_err-sent-clause-cause g c)

@@ -1,0 +1,19 @@
+use Rattle.std.proofs.Common.{◌≡◌, refl, sym, subst, lt-ltb}
+use Rattle.msg_codec.specs.declared.letter.Letter.{Letter}
+use Rattle.post_rank.specs.Agrees.{Agrees}
+use Rattle.post_rank.specs.Rank.{Rank}
+use Rattle.post_rank.proofs.Queues.{either_of}
+use Rattle.post_rank.proofs.Sending.{agrees_sent, agrees_unchanged}
+use Rattle.post_rank.proofs.comm.Comm.send.Goals as goal
+
+pub returns-clause-agrees : goal.returns-clause-agrees
+returns-clause-agrees g c = λ log agrees.
+    let i = c.self.inside in
+    let me : Rank g.row.H.Denot = record { layout = i.layout; scheme = i.scheme; here = i.here; most = i.limits.letters; contents = i.handler; sent_count = i.sent.count; run_count = i.ran; held = i.held.lists; waiting = i.waiting; stopped = i.stopped } in
+    let is : me ≡ c.args.self.now = c.self.view_is in
+    let h : Agrees g.H.Handler.apply g.H.Handler.start me log = subst (λ m. Agrees g.H.Handler.apply g.H.Handler.start m log) (sym is) agrees in
+    let l : Letter = record { to = c.args.to; from = i.here; tag = c.args.tag; body = c.as_slice.result.now } in
+    either_of c.hold.result _ _ _
+    (λ gains counted. agrees_sent g.H.Handler.apply g.H.Handler.start me log h c.hold.new.held.lists c.hold.new.sent.count l refl (lt-ltb _ _ c.requires.data) gains counted)
+    (λ same counted. agrees_unchanged g.H.Handler.apply g.H.Handler.start me log h c.hold.new.held.lists c.hold.new.sent.count same counted)
+    c.hold.ensures.gains c.hold.ensures.counted c.hold.ensures.not_held c.hold.ensures.not_counted

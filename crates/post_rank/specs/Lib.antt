@@ -1,0 +1,10 @@
+pub mod Agrees
+pub mod Fault
+pub mod Fold
+pub mod Held
+pub mod OnLinks
+pub mod Puts
+pub mod Rank
+pub mod Running
+pub mod Sends
+pub mod Turns

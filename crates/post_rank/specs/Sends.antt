@@ -1,0 +1,12 @@
+-- What a handler has sent while it runs a letter.
+use Rattle.std.specs.Prelude.{ℕ, ◌<◌, List}
+use Rattle.post_rank.specs.declared.handler.Outbound.{Outbound}
+
+pub record Sends : Type 0 where
+  pub ranks : ℕ
+  pub letters : List Outbound
+
+-- a data letter to a rank of the world
+pub record IsData (ranks : ℕ) (sent : Outbound) : Type 0 where
+  pub destination : sent.to < ranks
+  pub tag : sent.tag < 240

@@ -1,0 +1,209 @@
+//! One rank of a world.
+ghost use Rattle.std.specs.Prelude.{◌≡◌, ◌<◌, ◌≤◌, ◌+◌, ◌^◌, ◌++◌, ℕ, List, [], ◌∷◌, false, length, IfOk, IfErr, IsErr, OnOk, OnErr};
+ghost use Rattle.std.specs.Borrow.{Bor};
+ghost use Rattle.msg_codec.specs.Letter.{letter_of};
+ghost use Rattle.msg_codec.specs.declared.letter.Letter.{Letter};
+ghost use Rattle.world_core.specs.declared.entry.Entry.{Entry};
+ghost use Rattle.world_core.specs.Pairs.{of_pair};
+ghost use Rattle.ygm_route.specs.declared.scheme.Scheme.TheVariants.{Direct};
+ghost use Rattle.post_rank.specs.Agrees.{Agrees};
+ghost use Rattle.post_rank.specs.Fault.{IsFullAt, NeverStopped};
+ghost use Rattle.post_rank.specs.Held.{Gains, IsHeldFor, holding};
+ghost use Rattle.post_rank.specs.Rank.{fresh_rank, having_sent, sent_to};
+
+use crate::held::Held;
+use crate::waiting::Waiting;
+use crate::{CommFault, Handler, Outgoing};
+use msg_codec::{Body, Counter, LetterRef};
+use std::alloc::Global;
+use std::marker::Model;
+use world_core::Limits;
+use ygm_route::{Layout, Scheme};
+
+/// One rank of a world: its handler, and the letters that it holds until its links take them. It reaches the
+/// links through a post, which each turn is given. After a fault of a turn it is stopped for good.
+#[derive(Drop)]
+pub struct Comm<H> {
+    pub(crate) alloc: Global,
+    pub(crate) layout: Layout,
+    pub(crate) scheme: Scheme,
+    pub(crate) here: u32,
+    pub(crate) limits: Limits,
+    pub(crate) sent: Counter,
+    pub(crate) ran: u64,
+    pub(crate) held: Held,
+    pub(crate) waiting: Waiting,
+    pub(crate) out: Outgoing,
+    pub(crate) handler: H,
+    pub(crate) stopped: bool,
+}
+
+impl<H> Model for Comm<H> {
+    ghost use Rattle.std.specs.Prelude.{◌≡◌, ◌<◌, ◌≤◌, ◌^◌, [], length};
+    ghost use Rattle.ygm_route.specs.declared.scheme.Scheme.TheVariants.{Direct};
+    ghost use Rattle.post_rank.specs.Rank.{Rank};
+
+    ghost Value = { Rank H };
+
+    ghost view = { λ comm. record { layout = comm.layout; scheme = comm.scheme; here = comm.here; most = comm.limits.letters; contents = comm.handler; sent_count = comm.sent.count; run_count = comm.ran; held = comm.held.lists; waiting = comm.waiting; stopped = comm.stopped } };
+
+    ghost invariant = { λ comm. (comm.here < comm.layout.ranks) × (comm.scheme ≡ Direct) × (comm.sent.limit ≡ comm.limits.letters)
+        × (comm.out.ranks ≡ comm.layout.ranks) × (comm.out.letters ≡ []) × (length comm.held.lists ≡ comm.layout.ranks) };
+}
+
+/// A rank that couldn't be made for want of memory. It gives the handler back.
+#[derive(Debug, Drop)]
+pub struct NotMade<H> {
+    pub handler: H,
+}
+
+/// What a rank leaves.
+#[derive(Debug, Drop)]
+pub struct Finished<H> {
+    pub handler: H,
+}
+
+/// Counts a letter as sent, and holds it.
+pub(crate) fn hold(
+    sent: &mut Counter,
+    most: u64,
+    held: &mut Held,
+    letter: LetterRef<'_>,
+) -> Result<(), CommFault>
+    requires limit { sent.old.limit ≡ most }
+    requires destination { letter.to < length held.old.lists }
+    requires data { IsHeldFor (length held.old.lists) letter.to (letter_of letter) }
+    ensures held { OnOk result (held.new.lists ≡ holding held.old.lists (letter_of letter.entry)) }
+    ensures gains { OnOk result (Gains held.old.lists held.new.lists (letter_of letter.entry ∷ [])) }
+    ensures all { length held.new.lists ≡ length held.old.lists }
+    ensures counted { OnOk result (sent.new.count ≡ sent.old.count + 1) }
+    ensures not_held { OnErr result (held.new.lists ≡ held.old.lists) }
+    ensures not_counted { OnErr result (sent.new.count ≡ sent.old.count) }
+    ensures limit { sent.new.limit ≡ sent.old.limit }
+    ensures cause { IfErr result (IsFullAt sent.old.count most) }
+    ensures full { most ≤ sent.old.count → IsErr result }
+    ensures never_stopped { IfErr result NeverStopped }
+{
+    if sent.count() < most {
+        held.add(letter)?;
+    }
+    sent.raise(1)?;
+    Ok(())
+}
+
+impl<H: Handler> Comm<H> {
+    /// A rank that has sent and run nothing: number `here`, with a handler that keeps what it starts with. It
+    /// takes memory from `alloc` as it sends and as letters run.
+    pub fn new(
+        alloc: Global,
+        layout: Layout,
+        scheme: Scheme,
+        here: u32,
+        limits: Limits,
+        handler: H,
+    ) -> Result<Comm<H>, NotMade<H>>
+        requires below { here < layout.ranks }
+        requires direct { scheme ≡ Direct }
+        requires fresh { H.start handler ≡ handler }
+        ensures made { IfOk result (λ comm. comm ≡ fresh_rank layout scheme here limits.letters handler) }
+        ensures agrees { IfOk result (λ comm. Agrees H.apply H.start comm []) }
+        ensures handed_back { IfErr result (λ refused. refused.handler ≡ handler) }
+    {
+        let Ok(held) = Held::new(alloc, layout.ranks()) else {
+            return Err(NotMade { handler });
+        };
+        Ok(Comm {
+            alloc,
+            layout,
+            scheme,
+            here,
+            limits,
+            sent: Counter::new(limits.letters),
+            ran: 0,
+            held,
+            waiting: Waiting::none(alloc),
+            out: Outgoing::new(alloc, layout.ranks()),
+            handler,
+            stopped: false,
+        })
+    }
+
+    /// Sends a letter to a rank, itself perhaps. The rank holds it until a turn puts it into its link. It is
+    /// refused where the rank has sent as many letters as it may, or memory is wanting: then nothing has
+    /// changed, and the body is lost.
+    pub fn send(&mut self, to: u32, tag: u8, body: Body) -> Result<(), CommFault>
+        requires destination { to < self.old.layout.ranks }
+        requires data { tag < 240 }
+        requires going { self.old.stopped ≡ false }
+        ensures sent { OnOk result ((log : List Entry) → sent_to self.new log to
+            ≡ sent_to self.old log to ++ record { to = to; from = self.old.here; tag = tag; body = body } ∷ []) }
+        ensures held { OnOk result (self.new ≡ having_sent self.old (record { to = to; from = self.old.here; tag = tag; body = body })) }
+        ensures unchanged { OnErr result (self.new ≡ self.old) }
+        ensures cause { IfErr result (IsFullAt self.old.sent_count self.old.most) }
+        ensures full { self.old.most ≤ self.old.sent_count → IsErr result }
+        ensures never_stopped { IfErr result NeverStopped }
+        ensures agrees { (log : List Entry) → Agrees H.apply H.start self.old log → Agrees H.apply H.start self.new log }
+    {
+        let letter = LetterRef {
+            to,
+            from: self.here,
+            tag,
+            body: body.as_slice(),
+        };
+        hold(&mut self.sent, self.limits.letters, &mut self.held, letter)
+    }
+
+    /// The number of ranks of its world.
+    pub fn ranks(&self) -> u32
+        ensures { result ≡ self.now.layout.ranks }
+    {
+        self.layout.ranks()
+    }
+
+    /// Its number, from 0.
+    pub fn here(&self) -> u32
+        ensures value { result ≡ self.now.here }
+        ensures below { result < self.now.layout.ranks }
+    {
+        self.here
+    }
+
+    /// The number of letters that it has sent, by `send` and by its handler, whether they ran or not.
+    pub fn sent_count(&self) -> u64
+        ensures value { result ≡ self.now.sent_count }
+        ensures within { result ≤ self.now.most }
+        ensures bound { self.now.most ≤ 2 ^ 56 }
+    {
+        self.sent.count()
+    }
+
+    /// The number of letters that ran here.
+    pub fn run_count(&self) -> u64
+        ensures { result ≡ self.now.run_count }
+    {
+        self.ran
+    }
+
+    /// What its handler keeps.
+    pub fn contents(&self) -> &H
+        ensures { result.now ≡ self.now.contents }
+    {
+        &self.handler
+    }
+
+    /// Whether a turn failed. Such a rank takes no other turn, and sends nothing.
+    pub fn is_stopped(&self) -> bool
+        ensures { result ≡ self.now.stopped }
+    {
+        self.stopped
+    }
+
+    /// The handler, as the rank leaves it. It takes no memory.
+    pub fn finish(self) -> Finished<H>
+        ensures { result.handler ≡ self.contents }
+    {
+        Finished {
+            handler: self.handler,
+        }
+    }
+}

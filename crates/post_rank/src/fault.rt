@@ -1,0 +1,45 @@
+//! Why a rank couldn't go on.
+ghost use Rattle.std.specs.Prelude.{◌≡◌};
+ghost use Rattle.post_rank.specs.declared.fault.CommFault.TheVariants.{CountFull, NoMemory};
+
+use msg_codec::AtLimit;
+use std::alloc::{AllocError, AllocFailed};
+use thiserror::Error;
+
+/// Why a letter wasn't sent, or a turn failed.
+#[derive(Clone, Copy, Debug, PartialEq, Eq, Error)]
+pub enum CommFault {
+    /// A rank raised the stop. The turn did nothing.
+    #[error("a rank has stopped")]
+    Stopped,
+    /// The rank has sent as many letters as it may. It stays so: each later send is refused too.
+    #[error("the rank is at its limit of letters")]
+    CountFull(AtLimit),
+    /// Memory was wanting. What the call promises of a refusal holds, and it may be tried again.
+    #[error("out of memory")]
+    NoMemory,
+}
+
+impl From<AtLimit> for CommFault {
+    ghost from_gives = { λ at e. e ≡ CountFull at };
+
+    fn from(at: AtLimit) -> Self {
+        CommFault::CountFull(at)
+    }
+}
+
+impl From<AllocError> for CommFault {
+    ghost from_gives = { λ _ e. e ≡ NoMemory };
+
+    fn from(_: AllocError) -> Self {
+        CommFault::NoMemory
+    }
+}
+
+impl<T: Drop> From<AllocFailed<T>> for CommFault {
+    ghost from_gives = { λ _ e. e ≡ NoMemory };
+
+    fn from(_: AllocFailed<T>) -> Self {
+        CommFault::NoMemory
+    }
+}

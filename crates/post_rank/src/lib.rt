@@ -1,0 +1,19 @@
+//! Ranks that send each other letters: a rank holds what it sends until its links take it, and each letter runs
+//! at its destination, in the order of its sender.
+#![tactic(auto)]
+
+mod comm;
+mod fault;
+mod handler;
+mod held;
+mod laws;
+#[cfg(test)]
+mod tests;
+mod turn;
+mod waiting;
+
+pub use comm::{Comm, Finished, NotMade};
+pub use fault::CommFault;
+pub use handler::{Handler, Outbound, Outgoing};
+pub use laws::what_ran_is_the_beginning_of_what_was_sent;
+pub use turn::Turn;
