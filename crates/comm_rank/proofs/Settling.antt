@@ -1,130 +1,109 @@
--- Links are run one after another, and ranks one after another.
-use Rattle.std.proofs.Common.{◌≡◌, ℕ, ◌+◌, ◌<◌, ◌≤◌, cond, List, [], ◌∷◌, ◌++◌, length, take, get_or, refl, sym, ap, ◌∙◌, subst, inl, inr, arith, Result, Ok, Err, OnErr, length-append}
-use Rattle.std.proofs.lemmas.List.{append-nil, take-append-le}
-use Rattle.std.proofs.Math.Seq.{take-append_seam}
-use Rattle.std.proofs.lemmas.Bool.{eq-eqb, ne_eqb, cases_eq}
-use Rattle.std.specs.List.{AllByRecursion}
+-- Where all that a rank had sent was taken, it ran.
+use Rattle.std.proofs.Common.{◌≡◌, ℕ, ◌-◌, ◌<◌, ◌≤◌, Bool, true, false, ◌&&◌, nat_eq, Some, List, [], ◌∷◌, ◌++◌, length, drop, take, filter, get_or, slice_get, refl, sym, ap, ◌∙◌, subst, arith, length-append}
+use Rattle.std.proofs.lemmas.List.{take-append-drop}
+use Rattle.std.proofs.lemmas.Option.{slice_get_within}
 use Rattle.msg_codec.specs.declared.letter.Letter.{Letter}
-use Rattle.comm_rank.specs.Fold.{Applies, handed_from, letters_to, letters_from}
-use Rattle.comm_rank.specs.Links.{Links, waiting, place}
-use Rattle.comm_rank.specs.Runs.{State, only_at, RanHere, StoppedHere, Refused}
-use Rattle.comm_rank.proofs.Places.{All-put}
-use Rattle.comm_rank.proofs.Running.{only_at-nil, only_at-same, letters_from-append, RanHere-none, RanHere-trans}
+use Rattle.world_core.specs.declared.entry.Entry.{Entry}
+use Rattle.world_core.specs.Log.{letters_put, letters_taken}
+use Rattle.world_core.specs.Modest.{IsWorld}
+use Rattle.world_core.specs.Pairs.{arrived, for_rank, is_data, is_of_pair, of_pair, pair_put, pair_taken}
+use Rattle.world_core.specs.Plain.{Plain}
+use Rattle.world_core.specs.Sound.{IsPrefix, IsSound}
+use Rattle.world_core.specs.World.{Logs, log_of}
+use Rattle.world_core.proofs.Lists.{prefix_filter, prefix_longer, prefix_trans}
+use Rattle.comm_rank.specs.Fold.{Applies}
+use Rattle.comm_rank.specs.Rank.{Rank, held_letters, handed, ran_from, sent_to}
+use Rattle.comm_rank.specs.Settled.{AllTaken, AreRanks, HasAdvanced, HasRun, sent_length}
+use Rattle.comm_rank.proofs.Advancing.{item_there}
+use Rattle.comm_rank.proofs.Arriving.{ran_all}
+use Rattle.comm_rank.proofs.Moving.{pair_of_sender, sent_at}
 
-pub on_err : {A E : Type 0} (r : Result A E) (P : Type 0) → P → OnErr r P
-on_err (Ok a) P p = tt
-on_err (Err e) P p = p
+-- of two beginnings of a list, the shorter begins the longer
+shorter : {X : Type 0} (xs ys zs : List X) → IsPrefix xs zs → IsPrefix ys zs → length xs ≤ length ys → IsPrefix xs ys
+shorter [] ys zs p q le = (ys, refl)
+shorter (x ∷ xs) [] zs p q le = absurd (omega (arith, le))
+shorter (x ∷ xs) (y ∷ ys) [] p q le = absurd (let e = p.1 in cc)
+shorter {X} (x ∷ xs) (y ∷ ys) (z ∷ zs) p q le =
+    let one = heads x z (xs ++ p.0) zs p.1 in
+    let two = heads y z (ys ++ q.0) zs q.1 in
+    let rest = shorter xs ys zs (p.0, one.1) (q.0, two.1) (omega (arith, le)) in
+    (rest.0, ap (λ h. h ∷ (xs ++ rest.0)) (one.0 ∙ sym two.0) ∙ ap (λ t. y ∷ t) rest.1)
+  where
+    heads : (a b : X) (us vs : List X) → a ∷ us ≡ b ∷ vs → (a ≡ b) × (us ≡ vs)
+    heads a b us vs e = (cc, cc)
 
--- all are of that sender
-abbrev pub AllFrom : ℕ → List Letter → Type 0
-AllFrom from letters = AllByRecursion (λ l. l.from ≡ from) letters
+twice : (p q : Letter → Bool) → ((l : Letter) → p l ≡ true → q l ≡ true) → (xs : List Letter) → filter p (filter q xs) ≡ filter p xs
+twice p q h [] = refl
+twice p q h (x ∷ xs) = by_test (p x) (q x) refl refl (twice p q h xs)
+  where
+    by_test : (s t : Bool) → p x ≡ s → q x ≡ t → filter p (filter q xs) ≡ filter p xs → filter p (filter q (x ∷ xs)) ≡ filter p (x ∷ xs)
+    by_test true true e f rest = rw f (rw e (ap (λ ys. x ∷ ys) rest))
+    by_test true false e f rest = absurd (let yes = h x e in cc)
+    by_test false true e f rest = rw f (rw e rest)
+    by_test false false e f rest = rw f (rw e rest)
 
-pub from_all : (from : ℕ) (letters : List Letter) → AllFrom from letters → letters_from from letters ≡ letters
-from_all from [] all = refl
-from_all from (l ∷ ls) all =
-    ap (λ b. cond b (l ∷ letters_from from ls) (letters_from from ls)) (eq-eqb l.from from all.0) ∙ ap (λ w. l ∷ w) (from_all from ls all.1)
+last_and_first : (a b c : Bool) → (a && b && c) ≡ true → (a && c) ≡ true
+last_and_first true true true h = refl
+last_and_first true true false h = absurd cc
+last_and_first true false c h = absurd cc
+last_and_first false b c h = absurd cc
 
-pub from_none : (from other : ℕ) (letters : List Letter) → AllFrom from letters → (other ≡ from → ⊥) → letters_from other letters ≡ []
-from_none from other [] all ne = refl
-from_none from other (l ∷ ls) all ne =
-    ap (λ b. cond b (l ∷ letters_from other ls) (letters_from other ls)) (ne_eqb l.from other (λ e. ne (sym e ∙ all.0))) ∙ from_none from other ls all.1 ne
+of_those : (from to : ℕ) (xs : List Letter) → of_pair from to (for_rank to xs) ≡ of_pair from to xs
+of_those from to xs = twice (is_of_pair from to) (λ l. is_data l && nat_eq l.to to) (λ l h. last_and_first (is_data l) (nat_eq l.from from) (nat_eq l.to to) h) xs
 
--- what ran of a link is the first of what waited there, where no more ran
-pub ran_first : {C : Type 0} (apply : Applies C) (here from count : ℕ) (s0 s1 : State C) (l0 l1 : Links) (ran : List Letter) → RanHere apply here s0 s1 l0 l1 ran → from < l0.ranks → here < l0.ranks → length (letters_from from ran) ≡ count → count ≤ length (waiting l0 from here) → letters_from from ran ≡ take count (waiting l0 from here)
-ran_first apply here from count s0 s1 l0 l1 ran r f h few enough =
-    let given = only_at here from (letters_to here (handed_from apply here l0.ranks s0.contents ran)) in
-    let both : waiting l0 from here ++ given ≡ letters_from from ran ++ waiting l1 from here =
-    r.carried from here f h ∙ ap (λ w. w ++ waiting l1 from here) (only_at-same here here (letters_from from ran) refl) in
-    sym (take-append_seam (letters_from from ran) (waiting l1 from here))
-    ∙ ap (λ k. take k (letters_from from ran ++ waiting l1 from here)) few
-    ∙ ap (take count) (sym both)
-    ∙ take-append-le count (waiting l0 from here) given enough
+pub ran_is_taken : {C : Type 0} (me : Rank C) (log : List Entry) (from to : ℕ) → me.here ≡ to → me.waiting ≡ [] → ran_from me log from ≡ pair_taken from to log
+ran_is_taken me log from to here none =
+    ap (of_pair from me.here) (ran_all me log none) ∙ ap (λ h. of_pair from h (for_rank h (letters_taken log))) here ∙ of_those from to (letters_taken log)
 
--- as many fewer wait in a link as ran of it, at most
-pub still_wait : {C : Type 0} (apply : Applies C) (here from : ℕ) (s0 s1 : State C) (l0 l1 : Links) (ran : List Letter) → RanHere apply here s0 s1 l0 l1 ran → from < l0.ranks → here < l0.ranks → length (waiting l0 from here) ≤ length (letters_from from ran) + length (waiting l1 from here)
-still_wait apply here from s0 s1 l0 l1 ran r f h =
-    let given = only_at here from (letters_to here (handed_from apply here l0.ranks s0.contents ran)) in
-    let both : waiting l0 from here ++ given ≡ letters_from from ran ++ waiting l1 from here =
-    r.carried from here f h ∙ ap (λ w. w ++ waiting l1 from here) (only_at-same here here (letters_from from ran) refl) in
-    omega (arith, ap length both, length-append (waiting l0 from here) given, length-append (letters_from from ran) (waiting l1 from here))
+-- what ran of a pair begins what was sent
+pub ran_begins : {C : Type 0} (sender me : Rank C) (links : Plain) (from to : ℕ) → IsSound links.world → sender.here ≡ from → me.here ≡ to → me.waiting ≡ [] →
+    IsPrefix (ran_from me (log_of links.world to) from) (sent_to sender (log_of links.world from) to)
+ran_begins sender me links from to sound here there none =
+    let got = prefix_longer _ _ (of_pair from to (held_letters sender)) (sound.got from to) in
+    let P : List Letter → Type 0 = λ xs. IsPrefix xs (pair_put from to (log_of links.world from) ++ of_pair from to (held_letters sender)) in
+    let Q : ℕ → Type 0 = λ h. IsPrefix (ran_from me (log_of links.world to) from) (pair_put h to (log_of links.world from) ++ of_pair h to (held_letters sender)) in
+    subst Q (sym here) (subst P (sym (ran_is_taken me (log_of links.world to) from to there none)) got)
 
--- one letter more of the link ran
-pub ran_more : {C : Type 0} (apply : Applies C) (here now from k : ℕ) (s0 s1 s2 : State C) (l0 l1 l2 : Links) → now ≡ here
-    → (ran : List Letter) × RanHere apply here s0 s1 l0 l1 ran × AllFrom from ran × (length ran ≡ k)
-    → (l : Letter) × (l.from ≡ from) × RanHere apply now s1 s2 l1 l2 (l ∷ [])
-    → (ran : List Letter) × RanHere apply here s0 s2 l0 l2 ran × AllFrom from ran × (length ran ≡ k + 1)
-ran_more apply here now from k s0 s1 s2 l0 l1 l2 same so_far one =
-    let step : RanHere apply here s1 s2 l1 l2 (one.0 ∷ []) = subst (λ h. RanHere apply h s1 s2 l1 l2 (one.0 ∷ [])) same one.2 in (
-      so_far.0 ++ one.0 ∷ [],
-      RanHere-trans apply here s0 s1 s2 l0 l1 l2 so_far.0 (one.0 ∷ []) so_far.1 step,
-      All-put (λ l. l.from ≡ from) so_far.0 (one.0 ∷ []) so_far.2 (one.1, tt),
-      omega (arith, so_far.3, length-append so_far.0 (one.0 ∷ [])),
+module _ {C : Type 0} (apply : Applies C) (start : C → C) (before after : List (Rank C)) (old new : Plain) (caller : ℕ) (ranks : AreRanks apply start before old) (now : AreRanks apply start after new)
+    (all : length after ≡ length before) where
+  pub has_run : IsWorld new.world → HasAdvanced apply before after old new caller → AllTaken before old new caller → HasRun before after old new caller
+  has_run w advanced taken to b a e f =
+      let later = get_or after caller b in
+      let there : slice_get after caller ≡ Some later = item_there before after caller b e all in
+      let adv = advanced b later e there in
+      let was = ranks.each caller b e in
+      let mine = now.each to a f in
+      let sender = now.each caller later there in
+      let within : to < new.world.layout.ranks = (let lt = slice_get_within after to a f in omega (arith, lt, now.all)) in
+      let ran : IsPrefix (ran_from a (log_of new.world to) caller) (sent_to later (log_of new.world caller) to) = ran_begins later a new caller to w.sound sender.here mine.here mine.agrees.nothing_waits in
+      let sent : IsPrefix (sent_to b (log_of old.world caller) to) (sent_to later (log_of new.world caller) to) = (of_pair b.here to (handed apply b adv.0), sym (adv.1.sent to)) in
+      let long : length (ran_from a (log_of new.world to) caller) ≡ length (pair_taken caller to (log_of new.world to)) = ap length (ran_is_taken a (log_of new.world to) caller to mine.here mine.agrees.nothing_waits) in
+      shorter _ _ _ sent ran (omega (arith, taken to within, sent_at before old caller to b e was.here, long))
+
+-- a rank has sent no more to one than in all
+pub few_to_one : {C : Type 0} (apply : Applies C) (start : C → C) (comms : List (Rank C)) (links : Plain) (rank : ℕ) (me : Rank C) → slice_get comms rank ≡ Some me → AreRanks apply start comms links →
+    (to : ℕ) → sent_length comms links rank to ≤ me.sent_count
+few_to_one apply start comms links rank me there ranks to =
+    let mine = ranks.each rank me there in
+    let log = log_of links.world rank in
+    omega (
+      arith,
+      sent_at comms links rank to me there mine.here,
+      length-append (pair_put me.here to log) (of_pair me.here to (held_letters me)),
+      mine.agrees.sent_count,
+      pair_of_sender me.here to (letters_put log),
+      pair_of_sender me.here to (held_letters me),
     )
 
--- letters ran before the one that was refused
-pub stopped_later : {C : Type 0} (apply : Applies C) (here now : ℕ) (s0 s1 s2 : State C) (l0 l1 l2 : Links) (ran : List Letter) → now ≡ here
-    → RanHere apply here s0 s1 l0 l1 ran → StoppedHere apply now s1 s2 l1 l2 → StoppedHere apply here s0 s2 l0 l2
-stopped_later {C} apply here now s0 s1 s2 l0 l1 l2 ran same before st =
-    let later : StoppedHere apply here s1 s2 l1 l2 = subst (λ h. StoppedHere apply h s1 s2 l1 l2) same st in
-    record {
-      ran = ran ++ later.ran;
-      held = later.held;
-      between = later.between;
-      given = later.given;
-      runs = RanHere-trans apply here s0 s1 later.held l0 l1 later.between ran later.ran before later.runs;
-      refused = subst (λ n. Refused apply here n later.held s2 later.between later.given) before.ranks later.refused;
-      sent = later.sent;
-    }
-
--- Of each link to a rank from the ranks below a number as many letters ran as are due, and none of the others.
-pub record RanDue {C : Type 0} (apply : Applies C) (here : ℕ) (due : List ℕ) (s0 s1 : State C) (l0 l1 : Links) (upto : ℕ) : Type 0 where
-  pub ran : List Letter
-  pub runs : RanHere apply here s0 s1 l0 l1 ran
-  pub below : (from : ℕ) → from < upto → from < l0.ranks → letters_from from ran ≡ take (get_or due (place l0.ranks from here) 0) (waiting l0 from here)
-  pub above : (from : ℕ) → upto ≤ from → letters_from from ran ≡ []
-
-pub RanDue-none : {C : Type 0} (apply : Applies C) (here : ℕ) (due : List ℕ) (s : State C) (links : Links) → RanDue apply here due s s links links 0
-RanDue-none apply here due s links = record {
-  ran = [];
-  runs = RanHere-none apply here s links;
-  below = λ from lt f. absurd (omega (arith, lt));
-  above = λ from le. refl;
-}
-
--- what waited in a link of which nothing ran still waits first
-pub waits_first : {C : Type 0} (apply : Applies C) (here from : ℕ) (s0 s1 : State C) (l0 l1 : Links) (ran : List Letter) → RanHere apply here s0 s1 l0 l1 ran → from < l0.ranks → here < l0.ranks → letters_from from ran ≡ [] → (more : List Letter) × (waiting l1 from here ≡ waiting l0 from here ++ more)
-waits_first apply here from s0 s1 l0 l1 ran r f h none = (
-  only_at here from (letters_to here (handed_from apply here l0.ranks s0.contents ran)),
-  sym (r.carried from here f h ∙ ap (λ w. only_at here here w ++ waiting l1 from here) none ∙ ap (λ w. w ++ waiting l1 from here) (only_at-nil here here)),
-)
-
-pub due_waits : {C : Type 0} (apply : Applies C) (here k : ℕ) (due : List ℕ) (s0 s1 : State C) (l0 l1 : Links) → RanDue apply here due s0 s1 l0 l1 k → k < l0.ranks → here < l0.ranks → get_or due (place l0.ranks k here) 0 ≤ length (waiting l0 k here) → get_or due (place l0.ranks k here) 0 ≤ length (waiting l1 k here)
-due_waits apply here k due s0 s1 l0 l1 r f h enough =
-    let first = waits_first apply here k s0 s1 l0 l1 r.ran r.runs f h (r.above k (omega arith)) in
-    omega (arith, enough, ap length first.1, length-append (waiting l0 k here) first.0)
-
-pub RanDue-more : {C : Type 0} (apply : Applies C) (here k count : ℕ) (due : List ℕ) (s0 s1 s2 : State C) (l0 l1 l2 : Links) → RanDue apply here due s0 s1 l0 l1 k → (more : List Letter) → RanHere apply here s1 s2 l1 l2 more → AllFrom k more → length more ≡ count → count ≡ get_or due (place l0.ranks k here) 0 → k < l0.ranks → here < l0.ranks → get_or due (place l0.ranks k here) 0 ≤ length (waiting l0 k here) → RanDue apply here due s0 s2 l0 l2 (k + 1)
-RanDue-more apply here k count due s0 s1 s2 l0 l1 l2 r more runs all size is f h enough =
-    let due_now = due_waits apply here k due s0 s1 l0 l1 r f h enough in
-    let first = waits_first apply here k s0 s1 l0 l1 r.ran r.runs f h (r.above k (omega arith)) in
-    let f' : k < l1.ranks = omega (arith, r.runs.ranks) in
-    let h' : here < l1.ranks = omega (arith, r.runs.ranks) in
-    let mine : letters_from k more ≡ take (get_or due (place l0.ranks k here) 0) (waiting l1 k here) =
-    ran_first apply here k (get_or due (place l0.ranks k here) 0) s1 s2 l1 l2 more runs f' h' (ap length (from_all k more all) ∙ size ∙ is) due_now in
-    record {
-      ran = r.ran ++ more;
-      runs = RanHere-trans apply here s0 s1 s2 l0 l1 l2 r.ran more r.runs runs;
-      below = λ from lt g. elim (cases_eq from k) [
-        | inl e ↦
-            subst (λ i. letters_from i (r.ran ++ more) ≡ take (get_or due (place l0.ranks i here) 0) (waiting l0 i here)) (sym e)
-            (letters_from-append k r.ran more ∙ ap (λ w. w ++ letters_from k more) (r.above k (omega arith)) ∙ mine
-            ∙ ap (take (get_or due (place l0.ranks k here) 0)) first.1 ∙ take-append-le (get_or due (place l0.ranks k here) 0) (waiting l0 k here) first.0 enough)
-        | inr ne ↦
-            letters_from-append from r.ran more ∙ ap (λ w. letters_from from r.ran ++ w) (from_none k from more all ne) ∙ append-nil (letters_from from r.ran)
-            ∙ r.below from (omega (arith, lt, ne)) g
-      ];
-      above = λ from le.
-          letters_from-append from r.ran more
-          ∙ ap (λ w. letters_from from r.ran ++ w) (from_none k from more all (λ e. omega (arith, le, e)))
-          ∙ append-nil (letters_from from r.ran) ∙ r.above from (omega (arith, le));
-    }
+-- at every moment, letters that wait or not
+pub ran_begins_always : {C : Type 0} (world : Logs) (sender me : Rank C) → IsSound world → IsPrefix (ran_from me (log_of world me.here) sender.here) (sent_to sender (log_of world sender.here) me.here)
+ran_begins_always world sender me sound =
+    let from = sender.here in
+    let to = me.here in
+    let all = arrived to (log_of world to) in
+    let n = length all - length (for_rank to me.waiting) in
+    let some : IsPrefix (take n all) all = (drop n all, take-append-drop n all) in
+    let part : IsPrefix (of_pair from to (take n all)) (of_pair from to all) = prefix_filter (is_of_pair from to) (take n all) all some in
+    let P : List Letter → Type 0 = λ xs. IsPrefix (of_pair from to (take n all)) xs in
+    let taken : P (pair_taken from to (log_of world to)) = subst P (of_those from to (letters_taken (log_of world to))) part in
+    prefix_longer _ _ (of_pair from to (held_letters sender)) (prefix_trans _ _ _ taken (sound.got from to))

@@ -1,20 +1,38 @@
 -- When a rank's faults come.
-use Rattle.std.specs.Prelude.{◌≡◌, ℕ, ◌<◌, ◌+◌, List, Some, length, slice_get}
+use Rattle.std.specs.Prelude.{◌≡◌, ℕ, ◌<◌, length, true, ⊤}
 use Rattle.msg_codec.specs.declared.letter.Letter.{Letter}
 use Rattle.comm_rank.specs.Fold.{Applies}
-use Rattle.comm_rank.specs.Runs.{State}
+use Rattle.comm_rank.specs.Rank.{Rank}
 use Rattle.comm_rank.specs.declared.fault.CommFault.{CommFault}
-use Rattle.comm_rank.specs.declared.fault.CommFault.TheVariants.{CountFull, NoMemory}
+use Rattle.comm_rank.specs.declared.fault.CommFault.TheVariants.{Stopped, CountFull, NoMemory}
 
--- a full count is answered only by a count that can't be raised, with its limit
+-- the stop was met, as the call began
+abbrev pub IfStopped : CommFault → Type 0 → Type 0
+IfStopped Stopped P = P
+IfStopped (CountFull at) P = ⊤
+IfStopped NoMemory P = ⊤
+
+-- the rank itself couldn't go on
+abbrev pub UnlessStopped : CommFault → Type 0 → Type 0
+UnlessStopped Stopped P = ⊤
+UnlessStopped (CountFull at) P = P
+UnlessStopped NoMemory P = P
+
+-- a fact of the limit that a full count gave
+abbrev pub IfCountFull : CommFault → (ℕ → Type 0) → Type 0
+IfCountFull Stopped P = ⊤
+IfCountFull (CountFull at) P = P at
+IfCountFull NoMemory P = ⊤
+
+-- a call that doesn't look at the stop
+abbrev pub NeverStopped : CommFault → Type 0
+NeverStopped Stopped = ⊥
+NeverStopped (CountFull at) = ⊤
+NeverStopped NoMemory = ⊤
+
+-- a full count is answered only by a rank that has sent as many letters as it may
 abbrev pub IsFullAt : ℕ → ℕ → CommFault → Type 0
-IsFullAt count limit (CountFull at) = (limit < count + 1) × (at ≡ limit)
-IsFullAt count limit NoMemory = Unit {0}
-
--- a full count is answered only where the count of some rank can't be raised, with its limit
-abbrev pub IsFullSomewhere : {C : Type 0} → List (State C) → ℕ → CommFault → Type 0
-IsFullSomewhere {C} states limit (CountFull at) = (rank : ℕ) × (state : State C) × (slice_get states rank ≡ Some state) × (limit < state.sent + 1) × (at ≡ limit)
-IsFullSomewhere states limit NoMemory = Unit {0}
+IsFullAt count limit fault = IfCountFull fault (λ at. (count ≡ limit) × (at ≡ limit))
 
 -- some letter makes the handler send others
 abbrev pub Gives : {C : Type 0} → Applies C → Type 0
@@ -22,5 +40,8 @@ Gives {C} apply = (contents : C) × (here : ℕ) × (ranks : ℕ) × (letter : L
 
 -- while letters run, a full count is answered only where a handler sends others
 abbrev pub GivesIfFull : {C : Type 0} → Applies C → CommFault → Type 0
-GivesIfFull apply (CountFull at) = Gives apply
-GivesIfFull apply NoMemory = Unit {0}
+GivesIfFull apply fault = IfCountFull fault (λ _. Gives apply)
+
+-- the rank, stopped and else as it was
+abbrev pub halted : {C : Type 0} → Rank C → Rank C
+halted me = record me { stopped = true }

@@ -1,5 +1,5 @@
 -- What a rank's contents become and what its handler sends, as letters run there one after another.
-use Rattle.std.specs.Prelude.{ℕ, ◌==◌, List, [], ◌∷◌, ◌++◌, map, filter}
+use Rattle.std.specs.Prelude.{ℕ, List, [], ◌∷◌, ◌++◌, map}
 use Rattle.msg_codec.specs.declared.letter.Letter.{Letter}
 use Rattle.comm_rank.specs.declared.handler.Outbound.{Outbound}
 
@@ -12,6 +12,10 @@ Applies C = C → ℕ → ℕ → Letter → C × List Outbound
 abbrev pub letter_by : ℕ → Outbound → Letter
 letter_by here sent = record { to = sent.to; from = here; tag = sent.tag; body = sent.body }
 
+-- the letters that the handler gives as a letter runs, in order
+abbrev pub given_by : {C : Type 0} → Applies C → ℕ → ℕ → C → Letter → List Letter
+given_by apply here ranks contents l = map (letter_by here) (apply contents here ranks l).1
+
 -- the contents after these letters ran
 abbrev pub fold_from : {C : Type 0} → Applies C → ℕ → ℕ → C → List Letter → C
 fold_from apply here ranks contents [] = contents
@@ -21,12 +25,4 @@ fold_from apply here ranks contents (l ∷ ls) = fold_from apply here ranks (app
 abbrev pub handed_from : {C : Type 0} → Applies C → ℕ → ℕ → C → List Letter → List Letter
 handed_from apply here ranks contents [] = []
 handed_from apply here ranks contents (l ∷ ls) =
-    map (letter_by here) (apply contents here ranks l).1 ++ handed_from apply here ranks (apply contents here ranks l).0 ls
-
--- those for one rank
-abbrev pub letters_to : ℕ → List Letter → List Letter
-letters_to rank letters = filter (λ l. l.to == rank) letters
-
--- those of one sender
-abbrev pub letters_from : ℕ → List Letter → List Letter
-letters_from rank letters = filter (λ l. l.from == rank) letters
+    given_by apply here ranks contents l ++ handed_from apply here ranks (apply contents here ranks l).0 ls

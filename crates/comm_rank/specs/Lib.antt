@@ -1,6 +1,10 @@
+pub mod Agrees
 pub mod Fault
 pub mod Fold
-pub mod Links
+pub mod Held
+pub mod Puts
 pub mod Rank
-pub mod Runs
+pub mod Running
 pub mod Sends
+pub mod Settled
+pub mod Turns

@@ -1,35 +1,78 @@
--- What is seen of a rank: its number, the number of ranks, what its handler keeps, and how many letters
--- it has sent.
-use Rattle.std.specs.Prelude.{◌≡◌, ℕ, List, Some, length, map, slice_get}
-use Rattle.comm_rank.specs.Runs.{State}
-use Rattle.comm_rank.specs.declared.comm.Comm.{Comm}
+-- What is seen of a rank, and what it has sent and run.
+use Rattle.std.specs.Prelude.{◌≡◌, ℕ, ◌+◌, Bool, false, List, [], replicate}
+use Rattle.msg_codec.specs.declared.letter.Letter.{Letter}
+use Rattle.ygm_route.specs.declared.scheme.Scheme.{Scheme}
+use Rattle.ygm_route.specs.Layout.{Shape}
+use Rattle.world_core.specs.declared.entry.Entry.{Entry}
+use Rattle.world_core.specs.Local.{Local}
+use Rattle.world_core.specs.Log.{letters_of}
+use Rattle.world_core.specs.Pairs.{ran, ran_from as pair_ran, sent}
+use Rattle.comm_rank.specs.Fold.{Applies, fold_from, handed_from}
+use Rattle.comm_rank.specs.Held.{holding}
 
-abbrev pub rank_of : {H : Type 0} → Comm H → ℕ
-rank_of comm = comm.here
+-- Its place in which world, how many letters it may send, what its handler keeps, its counts, by destination
+-- the letters that it holds, the letters that it took and that wait still, and whether it is stopped.
+pub record Rank (C : Type 0) : Type 0 where
+  pub layout : Shape
+  pub scheme : Scheme
+  pub here : ℕ
+  pub most : ℕ
+  pub contents : C
+  pub sent_count : ℕ
+  pub run_count : ℕ
+  pub held : List (List Letter)
+  pub waiting : List Letter
+  pub stopped : Bool
 
-abbrev pub ranks_of : {H : Type 0} → Comm H → ℕ
-ranks_of comm = comm.ranks
+-- a rank that has sent and run nothing
+abbrev pub fresh_rank : {C : Type 0} → Shape → Scheme → ℕ → ℕ → C → Rank C
+fresh_rank layout scheme here most contents = record {
+  layout = layout;
+  scheme = scheme;
+  here = here;
+  most = most;
+  contents = contents;
+  sent_count = 0;
+  run_count = 0;
+  held = replicate layout.ranks [];
+  waiting = [];
+  stopped = false;
+}
 
-abbrev pub contents_of : {H : Type 0} → Comm H → H
-contents_of comm = comm.handler
+-- the rank as the rules see it, with its log
+abbrev pub local_of : {C : Type 0} → Rank C → List Entry → Local
+local_of me log = record { layout = me.layout; scheme = me.scheme; here = me.here; log = log }
 
-abbrev pub sent_count_of : {H : Type 0} → Comm H → ℕ
-sent_count_of comm = comm.sent.count
+-- the letters that it holds, for whichever destination
+abbrev pub held_letters : {C : Type 0} → Rank C → List Letter
+held_letters me = letters_of me.held
 
--- what a rank keeps and how many letters it has sent, together
-abbrev pub state_of : {H : Type 0} → Comm H → State H
-state_of comm = record { contents = comm.handler; sent = comm.sent.count }
+-- what it has sent to a rank: what its log put, and then what it holds still
+abbrev pub sent_to : {C : Type 0} → Rank C → List Entry → ℕ → List Letter
+sent_to me log to = sent me.here to log (held_letters me)
 
--- the same rank of the same world
-pub record IsSameRank {H : Type 0} (old new : Comm H) : Type 0 where
-  pub rank : rank_of new ≡ rank_of old
-  pub ranks : ranks_of new ≡ ranks_of old
+-- what ran there: the letters for it that its log took, less those that wait still
+abbrev pub ran_at : {C : Type 0} → Rank C → List Entry → List Letter
+ran_at me log = ran me.here log me.waiting
 
--- what each of the ranks keeps
-abbrev pub states_of : {H : Type 0} → List (Comm H) → List (State H)
-states_of {H} comms = map (state_of {H = H}) comms
+-- the part of one sender
+abbrev pub ran_from : {C : Type 0} → Rank C → List Entry → ℕ → List Letter
+ran_from me log from = pair_ran from me.here log me.waiting
 
--- one for each rank, in the order of ranks
-pub record IsWorld {H : Type 0} (comms : List (Comm H)) (ranks : ℕ) : Type 0 where
-  pub all : length comms ≡ ranks
-  pub each : (rank : ℕ) (comm : Comm H) → slice_get comms rank ≡ Some comm → (rank_of comm ≡ rank) × (ranks_of comm ≡ ranks)
+-- the rank once it has sent one letter more, which it holds
+abbrev pub having_sent : {C : Type 0} → Rank C → Letter → Rank C
+having_sent me l = record me { sent_count = me.sent_count + 1; held = holding me.held l }
+
+-- what becomes of its contents as letters run, one after another, and what its handler gives then
+abbrev pub folded : {C : Type 0} → Applies C → Rank C → List Letter → C
+folded apply me letters = fold_from apply me.here me.layout.ranks me.contents letters
+
+abbrev pub handed : {C : Type 0} → Applies C → Rank C → List Letter → List Letter
+handed apply me letters = handed_from apply me.here me.layout.ranks me.contents letters
+
+-- a call leaves the rank what it is
+pub record IsSameRank {C : Type 0} (old new : Rank C) : Type 0 where
+  pub layout : new.layout ≡ old.layout
+  pub scheme : new.scheme ≡ old.scheme
+  pub here : new.here ≡ old.here
+  pub most : new.most ≡ old.most

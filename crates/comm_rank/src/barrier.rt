@@ -1,92 +1,111 @@
 //! The weak barrier.
-ghost use Rattle.std.specs.Prelude.{◌≡◌, ◌<◌, ◌≤◌, ◌^◌, ◌*◌, ℕ, List, length, slice_index, take, IfErr, OnOk, OnErr};
-ghost use Rattle.std.specs.List.{AllByRecursion};
-ghost use Rattle.msg_codec.specs.declared.letter.Letter.{Letter};
-ghost use Rattle.comm_rank.specs.Fault.{GivesIfFull, IsFullAt, IsFullSomewhere};
-ghost use Rattle.comm_rank.specs.Fold.{letters_from};
-ghost use Rattle.comm_rank.specs.Links.{waiting, place};
-ghost use Rattle.comm_rank.specs.Rank.{rank_of, ranks_of, sent_count_of, state_of, states_of, IsSameRank, IsWorld};
-ghost use Rattle.comm_rank.specs.Runs.{RanHere, StoppedHere, Settled, StoppedAt};
+ghost use Rattle.std.specs.Prelude.{◌≡◌, ◌<◌, ℕ, true, false, length, IfErr, IfOk, OnOk};
+ghost use Rattle.world_core.specs.Modest.{IsWorld};
+ghost use Rattle.world_core.specs.Plain.{is_stopped};
+ghost use Rattle.world_core.specs.Post.{Rose};
+ghost use Rattle.comm_rank.specs.Fault.{GivesIfFull, IfStopped, UnlessStopped};
+ghost use Rattle.comm_rank.specs.Settled.{AreRanks, AreSameLinks, AreSameRanks, FailedAt, HasAdvanced, HasRun, RoundMoves, TurnMoves};
 
-use crate::lists::place_of;
-use crate::{Comm, CommFault, Handler, Lists};
-use std::alloc::Global;
+use crate::{Comm, CommFault, Handler, Turn};
+use world_core::PlainLinks;
 
-// Runs the letters that wait first in one link of the rank, so many.
-fn run_from<H: Handler>(
-    comm: &mut Comm<H>,
-    lists: &mut Lists,
-    from: u32,
-    count: usize,
-) -> Result<(), CommFault>
-    requires sender { from < ranks_of comm.old }
-    requires world { lists.old.ranks ≡ ranks_of comm.old }
-    requires some { count ≤ length (waiting lists.old from (rank_of comm.old)) }
-    ensures ran { OnOk result ((ran : List Letter) × RanHere H.apply (rank_of comm.old) (state_of comm.old) (state_of comm.new) lists.old lists.new ran
-        × AllByRecursion (λ l. l.from ≡ from) ran × (length ran ≡ count)) }
-    ensures stopped { OnErr result (StoppedHere H.apply (rank_of comm.old) (state_of comm.old) (state_of comm.new) lists.old lists.new) }
-    ensures cause { IfErr result (IsFullAt (sent_count_of comm.new) (2 ^ 56)) }
-    ensures gave { IfErr result (GivesIfFull H.apply) }
-    ensures same_rank { IsSameRank comm.old comm.new }
+/// It does nothing. The world of links is sound, always.
+fn is_sound(links: &PlainLinks)
+    requires { 0 < links.now.world.layout.ranks }
+    ensures { IsWorld links.now.world }
 {
-    for _ in 0..count {
-        comm.run_first(lists, from)?;
-    }
-    Ok(())
+    let _first = links.world().link_len(0, 0);
 }
 
-// Runs of each link to the rank as many letters as are due there.
-fn run_due<H: Handler>(
-    comm: &mut Comm<H>,
-    lists: &mut Lists,
-    due: &[usize],
-) -> Result<(), CommFault>
-    requires world { lists.old.ranks ≡ ranks_of comm.old }
-    requires square { length due.now ≡ lists.old.ranks * lists.old.ranks }
-    requires some { (from : ℕ) → from < lists.old.ranks →
-        slice_index due.now (place lists.old.ranks from (rank_of comm.old)) ≤ length (waiting lists.old from (rank_of comm.old)) }
-    ensures ran { OnOk result ((ran : List Letter) × RanHere H.apply (rank_of comm.old) (state_of comm.old) (state_of comm.new) lists.old lists.new ran
-        × ((from : ℕ) → from < lists.old.ranks → letters_from from ran
-        ≡ take (slice_index due.now (place lists.old.ranks from (rank_of comm.old))) (waiting lists.old from (rank_of comm.old)))) }
-    ensures stopped { OnErr result (StoppedHere H.apply (rank_of comm.old) (state_of comm.old) (state_of comm.new) lists.old lists.new) }
-    ensures cause { IfErr result (IsFullAt (sent_count_of comm.new) (2 ^ 56)) }
-    ensures gave { IfErr result (GivesIfFull H.apply) }
-    ensures same_rank { IsSameRank comm.old comm.new }
+/// Whether a turn took or put a batch.
+fn has_moved(turn: Turn) -> bool
+    ensures { result ≡ false → (turn.took ≡ 0) × (turn.put ≡ 0) }
 {
-    let ranks = comm.ranks();
-    let here = comm.here();
-    for from in 0..ranks {
-        let count = due[place_of(ranks, from, here)];
-        run_from(comm, lists, from, count)?;
-    }
-    Ok(())
+    turn.took > 0 || turn.put > 0
 }
 
-/// The weak barrier of one rank: afterwards every letter that `caller` sent before has run, each once and
-/// in order for each destination. It runs of each link as many letters as waited there when it began, rank
-/// by rank, and of one rank's letters those of sender 0 first; what handlers send meanwhile waits for a later
-/// barrier. It takes memory for the number of letters of each link.
-///
-/// After a refusal each letter that was sent has run or waits in its link in order; of the one whose run
-/// was refused, the handler may have run and sent the first of what it gave, while it still waits.
-pub fn settle<H: Handler>(
-    alloc: Global,
+/// A turn of one rank. It answers whether a batch was taken or put.
+fn turn_of<H: Handler>(
     comms: &mut [Comm<H>],
-    lists: &mut Lists,
+    links: &mut PlainLinks,
+    rank: usize,
+) -> Result<bool, CommFault>
+    requires ranks { AreRanks H.apply H.start comms.old links.old }
+    requires within { rank < length comms.old }
+    ensures moves { IfOk result (TurnMoves comms.old comms.new links.old links.new rank) }
+    ensures advanced { OnOk result ((other : ℕ) → HasAdvanced H.apply comms.old comms.new links.old links.new other) }
+    ensures ranks { OnOk result (AreRanks H.apply H.start comms.new links.new) }
+    ensures failed { IfErr result (FailedAt H.apply comms.old comms.new links.old links.new) }
+    ensures halts { IfErr result (λ fault. IfStopped fault (Rose links.old.halts links.new.halts)) }
+    ensures raises_the_stop { IfErr result (λ fault. UnlessStopped fault (is_stopped links.new ≡ true)) }
+    ensures gave { IfErr result (GivesIfFull H.apply) }
+    ensures halts_stand { OnOk result (links.new.halts ≡ links.old.halts) }
+    ensures same_ranks { AreSameRanks comms.old comms.new }
+    ensures all { length comms.new ≡ length comms.old }
+    ensures same_links { AreSameLinks links.old links.new }
+{
+    is_sound(links);
+    let turn = comms[rank].turn(links)?;
+    is_sound(links);
+    comms[rank].holds();
+    Ok(has_moved(turn))
+}
+
+/// A turn of each rank, in the order of ranks. It answers whether a batch was taken or put.
+fn round<H: Handler>(comms: &mut [Comm<H>], links: &mut PlainLinks) -> Result<bool, CommFault>
+    requires ranks { AreRanks H.apply H.start comms.old links.old }
+    ensures moves { IfOk result (RoundMoves (length comms.old) comms.old comms.new links.old links.new) }
+    ensures advanced { OnOk result ((other : ℕ) → HasAdvanced H.apply comms.old comms.new links.old links.new other) }
+    ensures ranks { OnOk result (AreRanks H.apply H.start comms.new links.new) }
+    ensures failed { IfErr result (FailedAt H.apply comms.old comms.new links.old links.new) }
+    ensures halts { IfErr result (λ fault. IfStopped fault (Rose links.old.halts links.new.halts)) }
+    ensures raises_the_stop { IfErr result (λ fault. UnlessStopped fault (is_stopped links.new ≡ true)) }
+    ensures gave { IfErr result (GivesIfFull H.apply) }
+    ensures halts_stand { OnOk result (links.new.halts ≡ links.old.halts) }
+    ensures same_ranks { AreSameRanks comms.old comms.new }
+    ensures all { length comms.new ≡ length comms.old }
+    ensures same_links { AreSameLinks links.old links.new }
+{
+    let mut moved = false;
+    for rank in 0..comms.len() {
+        let more = turn_of(comms, links, rank)?;
+        moved = moved || more;
+    }
+    Ok(moved)
+}
+
+/// The weak barrier of one rank: afterwards every letter that `caller` sent before has run, each once and in
+/// order for each destination. Of letters that handlers send meanwhile it says nothing.
+///
+/// It gives each rank one turn more than the caller has sent letters, and fewer where a whole round of turns
+/// found nothing to do. After a refusal each letter that was sent has run, waits in its link, or waits at its
+/// sender or its destination, in order; and one rank has raised the stop.
+pub fn settle<H: Handler>(
+    comms: &mut [Comm<H>],
+    links: &mut PlainLinks,
     caller: u32,
 ) -> Result<(), CommFault>
-    requires world { IsWorld comms.old lists.old.ranks }
-    requires caller { caller < lists.old.ranks }
-    ensures settled { OnOk result (Settled H.apply caller (states_of comms.old) (states_of comms.new) lists.old lists.new) }
-    ensures stopped { OnErr result (StoppedAt H.apply (states_of comms.old) (states_of comms.new) lists.old lists.new) }
-    ensures cause { IfErr result (IsFullSomewhere (states_of comms.new) (2 ^ 56)) }
+    requires ranks { AreRanks H.apply H.start comms.old links.old }
+    requires caller { caller < length comms.old }
+    ensures has_run { OnOk result (HasRun comms.old comms.new links.old links.new caller) }
+    ensures advanced { OnOk result ((rank : ℕ) → HasAdvanced H.apply comms.old comms.new links.old links.new rank) }
+    ensures ranks { OnOk result (AreRanks H.apply H.start comms.new links.new) }
+    ensures sound { OnOk result (IsWorld links.new.world) }
+    ensures failed { IfErr result (FailedAt H.apply comms.old comms.new links.old links.new) }
+    ensures halts { IfErr result (λ fault. IfStopped fault (Rose links.old.halts links.new.halts)) }
+    ensures raises_the_stop { IfErr result (λ fault. UnlessStopped fault (is_stopped links.new ≡ true)) }
     ensures gave { IfErr result (GivesIfFull H.apply) }
-    ensures world { IsWorld comms.new lists.new.ranks }
-    ensures ranks { lists.new.ranks ≡ lists.old.ranks }
+    ensures same_ranks { AreSameRanks comms.old comms.new }
+    ensures all { length comms.new ≡ length comms.old }
+    ensures same_links { AreSameLinks links.old links.new }
 {
-    let due = lists.lengths(alloc)?;
-    for comm in comms.iter_mut() {
-        run_due(comm, lists, &due)?;
+    let most = comms[caller as usize].sent_count();
+    for _ in 0..most + 1 {
+        if !round(comms, links)? {
+            is_sound(links);
+            return Ok(());
+        }
     }
+    is_sound(links);
     Ok(())
 }

@@ -1,33 +1,51 @@
 //! One rank of a world.
-ghost use Rattle.std.specs.Prelude.{◌≡◌, ◌<◌, ◌≤◌, ◌+◌, ◌-◌, ◌*◌, ◌^◌, ℕ, List, [], ◌∷◌, ◌++◌, length, drop, take, Some, map, IfOk, IfErr, IsErr, OnOk, OnErr, slice_get};
-ghost use Rattle.comm_rank.specs.Links.{waiting, ChangesLink};
-ghost use Rattle.comm_rank.specs.Fault.{GivesIfFull, IsFullAt};
+ghost use Rattle.std.specs.Prelude.{◌≡◌, ◌≢◌, ◌<◌, ◌≤◌, ◌+◌, ◌^◌, ◌++◌, ℕ, List, [], ◌∷◌, false, length, IfOk, IfErr, IsErr, OnOk, OnErr};
 ghost use Rattle.msg_codec.specs.Letter.{letter_of};
-ghost use Rattle.msg_codec.specs.declared.letter.Letter.{Letter};
-ghost use Rattle.comm_rank.specs.Fold.{letter_by};
-ghost use Rattle.comm_rank.specs.Runs.{SentHere};
+ghost use Rattle.world_core.specs.declared.entry.Entry.{Entry};
+ghost use Rattle.ygm_route.specs.declared.scheme.Scheme.TheVariants.{Direct};
+ghost use Rattle.comm_rank.specs.Agrees.{Agrees};
+ghost use Rattle.comm_rank.specs.Fault.{IsFullAt, NeverStopped};
+ghost use Rattle.comm_rank.specs.Held.{Gains, IsHeldFor, holding};
+ghost use Rattle.comm_rank.specs.Rank.{fresh_rank, having_sent, sent_to};
 
-use crate::{CommFault, Handler, Lists, Outgoing};
-use msg_codec::{Batch, Body, Counter, LetterRef};
-use std::alloc::{AllocError, Global};
+use crate::held::Held;
+use crate::waiting::Waiting;
+use crate::{CommFault, Handler, Outgoing};
+use msg_codec::{Body, Counter, LetterRef};
+use std::alloc::Global;
+use std::marker::Model;
+use world_core::Limits;
+use ygm_route::{Layout, Scheme};
 
-/// The greatest number of letters that a rank sends, its handler's among them, in all its time.
-pub const MOST_LETTERS: u64 = 1 << 56;
-
-/// One rank of a world: its handler, and how many letters it has sent. The letters themselves wait in the
-/// links of the world, `Lists`, which each call is given.
+/// One rank of a world: its handler, and the letters that it holds until its links take them. It reaches the
+/// links through a post, which each turn is given. After a fault of a turn it is stopped for good.
 #[derive(Drop)]
 pub struct Comm<H> {
-    alloc: Global,
-    ranks: u32,
-    here: u32,
-    sent: Counter,
-    out: Outgoing,
-    handler: H,
-    ghost here_below: { here < ranks },
-    ghost limit: { sent.limit ≡ 2 ^ 56 },
-    ghost same_ranks: { out.ranks ≡ ranks },
-    ghost nothing_out: { out.letters ≡ [] },
+    pub(crate) alloc: Global,
+    pub(crate) layout: Layout,
+    pub(crate) scheme: Scheme,
+    pub(crate) here: u32,
+    pub(crate) limits: Limits,
+    pub(crate) sent: Counter,
+    pub(crate) ran: u64,
+    pub(crate) held: Held,
+    pub(crate) waiting: Waiting,
+    pub(crate) out: Outgoing,
+    pub(crate) handler: H,
+    pub(crate) stopped: bool,
+}
+
+impl<H> Model for Comm<H> {
+    ghost use Rattle.std.specs.Prelude.{◌≡◌, ◌<◌, ◌≤◌, ◌^◌, [], length};
+    ghost use Rattle.ygm_route.specs.declared.scheme.Scheme.TheVariants.{Direct};
+    ghost use Rattle.comm_rank.specs.Rank.{Rank};
+
+    ghost Value = { Rank H };
+
+    ghost view = { λ comm. record { layout = comm.layout; scheme = comm.scheme; here = comm.here; most = comm.limits.letters; contents = comm.handler; sent_count = comm.sent.count; run_count = comm.ran; held = comm.held.lists; waiting = comm.waiting; stopped = comm.stopped } };
+
+    ghost invariant = { λ comm. (comm.here < comm.layout.ranks) × (comm.scheme ≡ Direct) × (comm.sent.limit ≡ comm.limits.letters)
+        × (comm.out.ranks ≡ comm.layout.ranks) × (comm.out.letters ≡ []) × (length comm.held.lists ≡ comm.layout.ranks) };
 }
 
 /// A rank that couldn't be made for want of memory. It gives the handler back.
@@ -36,94 +54,93 @@ pub struct NotMade<H> {
     pub handler: H,
 }
 
-// Sends a letter: it goes alone in a batch, behind what waits in its link.
-fn carry(
-    alloc: Global,
-    sent: &mut Counter,
-    lists: &mut Lists,
-    letter: LetterRef<'_>,
-) -> Result<(), CommFault>
-    requires sender { letter.from < lists.old.ranks }
-    requires destination { letter.to < lists.old.ranks }
-    ensures ok { OnOk result (ChangesLink letter.entry.from letter.entry.to lists.old lists.new
-        (waiting lists.old letter.entry.from letter.entry.to ++ letter_of letter.entry ∷ [])) }
-    ensures err { OnErr result (lists.new ≡ lists.old) }
-    ensures counted { OnOk result (sent.new.count ≡ sent.old.count + 1) }
-    ensures not_counted { OnErr result (sent.new.count ≡ sent.old.count) }
-    ensures limit { sent.new.limit ≡ sent.old.limit }
-    ensures cause { IfErr result (IsFullAt sent.old.count sent.old.limit) }
-    ensures full { sent.old.limit < sent.old.count + 1 → IsErr result }
-{
-    let mut batch = Batch::empty(alloc);
-    batch.push(letter)?;
-    lists.put(letter.from, letter.to, batch, sent)
+/// What a rank leaves.
+#[derive(Debug, Drop)]
+pub struct Finished<H> {
+    pub handler: H,
 }
 
-// Sends what a handler gave, in order.
-fn send_out(
-    alloc: Global,
-    here: u32,
+/// Counts a letter as sent, and holds it.
+pub(crate) fn hold(
     sent: &mut Counter,
-    lists: &mut Lists,
-    out: &Outgoing,
+    most: u64,
+    held: &mut Held,
+    letter: LetterRef<'_>,
 ) -> Result<(), CommFault>
-    requires world { lists.old.ranks ≡ out.now.ranks }
-    requires below { here < out.now.ranks }
-    ensures ok { OnOk result (SentHere here lists.old lists.new (map (letter_by here) out.now.letters)) }
-    ensures err { OnErr result ((k : ℕ) × (k ≤ length out.now.letters) × (sent.new.count ≡ sent.old.count + k)
-        × SentHere here lists.old lists.new (take k (map (letter_by here) out.now.letters))) }
-    ensures counted { OnOk result (sent.new.count ≡ sent.old.count + length out.now.letters) }
+    requires limit { sent.old.limit ≡ most }
+    requires destination { letter.to < length held.old.lists }
+    requires data { IsHeldFor (length held.old.lists) letter.to (letter_of letter) }
+    ensures held { OnOk result (held.new.lists ≡ holding held.old.lists (letter_of letter.entry)) }
+    ensures gains { OnOk result (Gains held.old.lists held.new.lists (letter_of letter.entry ∷ [])) }
+    ensures all { length held.new.lists ≡ length held.old.lists }
+    ensures counted { OnOk result (sent.new.count ≡ sent.old.count + 1) }
+    ensures not_held { OnErr result (held.new.lists ≡ held.old.lists) }
+    ensures not_counted { OnErr result (sent.new.count ≡ sent.old.count) }
     ensures limit { sent.new.limit ≡ sent.old.limit }
-    ensures cause { IfErr result (IsFullAt sent.new.count sent.old.limit) }
-    ensures some { OnErr result (0 < length out.now.letters) }
+    ensures cause { IfErr result (IsFullAt sent.old.count most) }
+    ensures full { most ≤ sent.old.count → IsErr result }
+    ensures never_stopped { IfErr result NeverStopped }
 {
-    for k in 0..out.count() {
-        carry(alloc, sent, lists, out.letter(here, k))?;
+    if sent.count() < most {
+        held.add(letter)?;
     }
+    sent.raise(1)?;
     Ok(())
 }
 
 impl<H: Handler> Comm<H> {
-    ghost use Rattle.comm_rank.specs.Rank.{rank_of, ranks_of, contents_of, sent_count_of, state_of, IsSameRank};
-    ghost use Rattle.comm_rank.specs.Runs.{RanHere, StoppedHere};
-
-    /// A rank that has sent nothing yet: number `here` of `ranks`, with a handler that keeps what it starts
-    /// with. It takes memory from `alloc` as it sends and as letters run.
-    pub fn new(alloc: Global, ranks: u32, here: u32, handler: H) -> Result<Comm<H>, NotMade<H>>
-        requires below { here < ranks }
+    /// A rank that has sent and run nothing: number `here`, with a handler that keeps what it starts with. It
+    /// takes memory from `alloc` as it sends and as letters run.
+    pub fn new(
+        alloc: Global,
+        layout: Layout,
+        scheme: Scheme,
+        here: u32,
+        limits: Limits,
+        handler: H,
+    ) -> Result<Comm<H>, NotMade<H>>
+        requires below { here < layout.ranks }
+        requires direct { scheme ≡ Direct }
         requires fresh { H.start handler ≡ handler }
-        ensures rank { IfOk result (λ comm. rank_of comm ≡ here) }
-        ensures ranks { IfOk result (λ comm. ranks_of comm ≡ ranks) }
-        ensures contents { IfOk result (λ comm. contents_of comm ≡ handler) }
-        ensures sent { IfOk result (λ comm. sent_count_of comm ≡ 0) }
+        ensures made { IfOk result (λ comm. comm ≡ fresh_rank layout scheme here limits.letters handler) }
+        ensures agrees { IfOk result (λ comm. Agrees H.apply H.start comm []) }
         ensures handed_back { IfErr result (λ refused. refused.handler ≡ handler) }
     {
+        let Ok(held) = Held::new(alloc, layout.ranks()) else {
+            return Err(NotMade { handler });
+        };
         Ok(Comm {
             alloc,
-            ranks,
+            layout,
+            scheme,
             here,
-            sent: Counter::new(MOST_LETTERS),
-            out: Outgoing::new(alloc, ranks),
+            limits,
+            sent: Counter::new(limits.letters),
+            ran: 0,
+            held,
+            waiting: Waiting::none(alloc),
+            out: Outgoing::new(alloc, layout.ranks()),
             handler,
+            stopped: false,
         })
     }
 
-    /// Sends a letter to a rank, itself perhaps: alone in a batch, it goes behind what waits in that link,
-    /// and runs at a later barrier. It is refused where the rank is at its limit of letters or memory is
-    /// wanting: then nothing has changed, and the body is lost.
-    pub fn send(&mut self, lists: &mut Lists, to: u32, tag: u8, body: Body) -> Result<(), CommFault>
-        requires destination { to < ranks_of self.old }
+    /// Sends a letter to a rank, itself perhaps. The rank holds it until a turn puts it into its link. It is
+    /// refused where the rank has sent as many letters as it may, or memory is wanting: then nothing has
+    /// changed, and the body is lost.
+    pub fn send(&mut self, to: u32, tag: u8, body: Body) -> Result<(), CommFault>
+        requires destination { to < self.old.layout.ranks }
         requires data { tag < 240 }
-        requires world { lists.old.ranks ≡ ranks_of self.old }
-        ensures sent { OnOk result (ChangesLink (rank_of self.old) to lists.old lists.new
-            (waiting lists.old (rank_of self.old) to ++ record { to = to; from = rank_of self.old; tag = tag; body = body } ∷ [])) }
-        ensures counted { OnOk result (sent_count_of self.new ≡ sent_count_of self.old + 1) }
-        ensures unchanged { OnErr result ((lists.new ≡ lists.old)) }
-        ensures not_counted { OnErr result (sent_count_of self.new ≡ sent_count_of self.old) }
-        ensures cause { IfErr result (IsFullAt (sent_count_of self.old) (2 ^ 56)) }
-        ensures full { 2 ^ 56 ≤ sent_count_of self.old → IsErr result }
-        ensures contents { contents_of self.new ≡ contents_of self.old }
-        ensures same_rank { IsSameRank self.old self.new }
+        requires going { self.old.stopped ≡ false }
+        ensures sent { OnOk result ((log : List Entry) → sent_to self.new log to
+            ≡ sent_to self.old log to ++ record { to = to; from = self.old.here; tag = tag; body = body } ∷ []) }
+        ensures others { (log : List Entry) (other : ℕ) → other ≢ to → sent_to self.new log other ≡ sent_to self.old log other }
+        ensures held { OnOk result (self.new ≡ having_sent self.old (record { to = to; from = self.old.here; tag = tag; body = body })) }
+        ensures unchanged { OnErr result (self.new ≡ self.old) }
+        ensures cause { IfErr result (IsFullAt self.old.sent_count self.old.most) }
+        ensures full { self.old.most ≤ self.old.sent_count → IsErr result }
+        ensures never_stopped { IfErr result NeverStopped }
+        ensures agrees { (log : List Entry) → Agrees H.apply H.start self.old log → Agrees H.apply H.start self.new log }
     {
         let letter = LetterRef {
             to,
@@ -131,57 +148,70 @@ impl<H: Handler> Comm<H> {
             tag,
             body: body.as_slice(),
         };
-        carry(self.alloc, &mut self.sent, lists, letter)
+        hold(&mut self.sent, self.limits.letters, &mut self.held, letter)
     }
 
     /// The number of ranks of its world.
     pub fn ranks(&self) -> u32
-        ensures { result ≡ ranks_of self.now }
+        ensures value { result ≡ self.now.layout.ranks }
+        ensures some { 0 < result }
     {
-        self.ranks
+        self.layout.ranks()
     }
 
     /// Its number, from 0.
     pub fn here(&self) -> u32
-        ensures value { result ≡ rank_of self.now }
-        ensures below { result < ranks_of self.now }
+        ensures value { result ≡ self.now.here }
+        ensures below { result < self.now.layout.ranks }
     {
         self.here
     }
 
-    /// What its handler keeps.
-    pub fn contents(&self) -> &H
-        ensures { result.now ≡ contents_of self.now }
-    {
-        &self.handler
-    }
-
-    /// The number of letters that it has sent, by `send` and by its handler, whether they ran or still wait.
+    /// The number of letters that it has sent, by `send` and by its handler, whether they ran or not.
     pub fn sent_count(&self) -> u64
-        ensures value { result ≡ sent_count_of self.now }
-        ensures bound { result ≤ 2 ^ 56 }
+        ensures value { result ≡ self.now.sent_count }
+        ensures within { result ≤ self.now.most }
+        ensures bound { self.now.most ≤ 2 ^ 56 }
     {
         self.sent.count()
     }
 
-    // Runs the letter that waits first in the link from a rank. Where the handler refuses, nothing has
-    // changed; where what it gave can't be sent, the letter still waits.
-    pub(crate) fn run_first(&mut self, lists: &mut Lists, from: u32) -> Result<(), CommFault>
-        requires sender { from < ranks_of self.old }
-        requires world { lists.old.ranks ≡ ranks_of self.old }
-        requires some { 0 < length (waiting lists.old from (rank_of self.old)) }
-        ensures ran { OnOk result ((l : Letter) × (l.from ≡ from) × RanHere H.apply (rank_of self.old) (state_of self.old) (state_of self.new) lists.old lists.new (l ∷ [])) }
-        ensures stopped { OnErr result (StoppedHere H.apply (rank_of self.old) (state_of self.old) (state_of self.new) lists.old lists.new) }
-        ensures cause { IfErr result (IsFullAt (sent_count_of self.new) (2 ^ 56)) }
-        ensures gave { IfErr result (GivesIfFull H.apply) }
-        ensures same_rank { IsSameRank self.old self.new }
+    /// The number of letters that ran here.
+    pub fn run_count(&self) -> u64
+        ensures { result ≡ self.now.run_count }
     {
-        let letter = lists.first(from, self.here);
-        self.handler.run(self.here, letter, &mut self.out)?;
-        let sent = send_out(self.alloc, self.here, &mut self.sent, lists, &self.out);
-        self.out.cut(0);
-        sent?;
-        lists.drop_first(from, self.here);
-        Ok(())
+        self.ran
+    }
+
+    /// What its handler keeps.
+    pub fn contents(&self) -> &H
+        ensures { result.now ≡ self.now.contents }
+    {
+        &self.handler
+    }
+
+    /// Whether a turn failed. Such a rank takes no other turn, and sends nothing.
+    pub fn is_stopped(&self) -> bool
+        ensures { result ≡ self.now.stopped }
+    {
+        self.stopped
+    }
+
+    /// It does nothing. Letters go straight to their destinations, and no rank has sent more than it may.
+    pub(crate) fn holds(&self)
+        ensures direct { self.now.scheme ≡ Direct }
+        ensures within { self.now.sent_count ≤ self.now.most }
+    {
+        let within = self.sent.count() <= self.limits.letters;
+        prove!(within);
+    }
+
+    /// The handler, as the rank leaves it. It takes no memory.
+    pub fn finish(self) -> Finished<H>
+        ensures { result.handler ≡ self.contents }
+    {
+        Finished {
+            handler: self.handler,
+        }
     }
 }

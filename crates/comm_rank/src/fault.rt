@@ -6,11 +6,13 @@ use msg_codec::AtLimit;
 use std::alloc::{AllocError, AllocFailed};
 use thiserror::Error;
 
-/// Why a letter wasn't sent, or didn't run.
+/// Why a letter wasn't sent, or a turn failed.
 #[derive(Clone, Copy, Debug, PartialEq, Eq, Error)]
 pub enum CommFault {
-    /// The rank has sent as many letters as it may, `MOST_LETTERS`. It stays so: each later send is refused
-    /// too.
+    /// A rank raised the stop. The turn did nothing.
+    #[error("a rank has stopped")]
+    Stopped,
+    /// The rank has sent as many letters as it may. It stays so: each later send is refused too.
     #[error("the rank is at its limit of letters")]
     CountFull(AtLimit),
     /// Memory was wanting. What the call promises of a refusal holds, and it may be tried again.

@@ -36,8 +36,10 @@ impl Model for Outgoing {
 
 impl Outgoing {
     ghost use Rattle.std.specs.Prelude.{Some, map, slice_get};
+    ghost use Rattle.std.specs.List.{AllByRecursion};
     ghost use Rattle.msg_codec.specs.Letter.{letter_of};
     ghost use Rattle.comm_rank.specs.Fold.{letter_by};
+    ghost use Rattle.comm_rank.specs.Sends.{IsData};
 
     /// No letters, in a world of so many ranks. It takes memory from `alloc` as letters are sent.
     pub fn new(alloc: Global, ranks: u32) -> Outgoing
@@ -83,6 +85,7 @@ impl Outgoing {
         ensures letter { slice_get (map (letter_by here) self.now.letters) k ≡ Some (letter_of result) }
         ensures destination { result.to < self.now.ranks }
         ensures sender { result.from ≡ here }
+        ensures tag { result.tag < 240 }
     {
         let sent = &self.letters[k as usize];
         LetterRef {
@@ -96,6 +99,7 @@ impl Outgoing {
     /// Keeps the first `count` letters, so that a handler can take back what it sent before a refusal.
     pub fn cut(&mut self, count: u64)
         requires { count ≤ length self.old.letters }
+        ensures data { AllByRecursion (IsData self.old.ranks) self.old.letters }
         ensures letters { self.new.letters ≡ take count self.old.letters }
         ensures ranks { self.new.ranks ≡ self.old.ranks }
     {

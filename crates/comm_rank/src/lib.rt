@@ -1,19 +1,21 @@
-//! A rank: what its handler does with letters, how letters reach other ranks, and the weak barrier
-//! that runs what waits.
+//! Ranks that send each other letters: a rank holds what it sends until its links take it, and each letter runs
+//! at its destination, in the order of its sender.
 #![tactic(auto)]
 
 mod barrier;
 mod comm;
 mod fault;
 mod handler;
+mod held;
 mod laws;
-mod lists;
 #[cfg(test)]
 mod tests;
+mod turn;
+mod waiting;
 
 pub use barrier::settle;
-pub use comm::{Comm, MOST_LETTERS, NotMade};
+pub use comm::{Comm, Finished, NotMade};
 pub use fault::CommFault;
 pub use handler::{Handler, Outbound, Outgoing};
-pub use laws::what_was_sent_ran_or_waits;
-pub use lists::Lists;
+pub use laws::what_ran_is_the_beginning_of_what_was_sent;
+pub use turn::Turn;

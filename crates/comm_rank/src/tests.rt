@@ -1,20 +1,31 @@
-ghost use Rattle.std.specs.Prelude.{◌≡◌, ◌<◌, IfOk};
-ghost use Rattle.comm_rank.specs.Rank.{rank_of, ranks_of, IsWorld};
+ghost use Rattle.std.specs.Prelude.{◌≡◌, ◌<◌, ◌≤◌, ◌++◌, List, [], ◌∷◌, false, IfOk, OnOk, OnErr};
+ghost use Rattle.world_core.specs.declared.entry.Entry.{Entry};
+ghost use Rattle.world_core.specs.Plain.{told_by};
+ghost use Rattle.world_core.specs.Post.{SamePost};
+ghost use Rattle.ygm_route.specs.declared.scheme.Scheme.TheVariants.{Direct};
+ghost use Rattle.comm_rank.specs.Agrees.{Agrees};
+ghost use Rattle.comm_rank.specs.Rank.{IsSameRank, fresh_rank};
+ghost use Rattle.comm_rank.specs.Settled.{IsRankOf};
+
+mod settling;
 
 use super::*;
 use msg_codec::{Body, Counter, LetterRef};
 use std::alloc::{AllocError, Global};
 use std::marker::Model;
 use std::test::*;
+use world_core::{Entry, Limits, PlainLinks, Post};
+use ygm_route::{Layout, Scheme};
 
-// The tags of a letter that changes nothing else, of one that asks for an answer, and of an answer.
+// The tags of a letter that changes nothing else, of one that asks for two answers, and of an answer.
 const NOTE: u8 = 0;
 
 const ASK: u8 = 1;
 
 const ANSWER: u8 = 2;
 
-// Keeps the first byte of each letter's body, and answers one that asks by its body, to its sender.
+// Keeps the first byte of each letter's body, and answers one that asks twice, to its sender: by its body, and by
+// an empty one.
 #[derive(Drop)]
 struct Echo {
     alloc: Global,
@@ -34,7 +45,7 @@ impl Handler for Echo {
 
     ghost apply = { λ contents here ranks l. (
       contents ++ slice_index_or l.body 0 0 ∷ [],
-      if (l.tag == 1) && (nat_lt l.from ranks) then record { to = l.from; tag = 2; body = l.body } ∷ [] else [],
+      if (l.tag == 1) && (nat_lt l.from ranks) then record { to = l.from; tag = 2; body = l.body } ∷ record { to = l.from; tag = 2; body = [] } ∷ [] else [],
     ) };
 
     ghost start = { λ _. [] };
@@ -48,8 +59,7 @@ impl Handler for Echo {
         let first = letter.body.first().copied().unwrap_or(0);
         self.seen.reserve(1)?;
         if letter.tag == ASK && letter.from < out.ranks() {
-            let body = Body::of(self.alloc, letter.body)?;
-            out.send(letter.from, ANSWER, body)?;
+            answer(self.alloc, letter, out)?;
         }
         self.seen.push_reserved(first);
         Ok(())
@@ -58,146 +68,322 @@ impl Handler for Echo {
     ghost keeps_start = { λ _ _ _ _. refl };
 }
 
-// A rank of two.
-fn rank(alloc: Global, here: u32) -> Result<Comm<Echo>, Fail>
-    requires { here < 2 }
-    ensures rank { IfOk result (λ comm. rank_of comm ≡ here) }
-    ensures ranks { IfOk result (λ comm. ranks_of comm ≡ 2) }
+// Sends both answers, or none.
+fn answer(alloc: Global, letter: LetterRef<'_>, out: &mut Outgoing) -> Result<(), AllocError>
+    requires { letter.from < out.old.ranks }
+    ensures answers { OnOk result (out.new.letters ≡ out.old.letters ++ record { to = letter.entry.from; tag = 2; body = letter.entry.body.now } ∷ record { to = letter.entry.from; tag = 2; body = [] } ∷ []) }
+    ensures none { OnErr result (out.new.letters ≡ out.old.letters) }
+    ensures ranks { out.new.ranks ≡ out.old.ranks }
 {
-    let seen = Vec::new(alloc);
-    let made = Comm::new(alloc, 2, here, Echo { alloc, seen });
+    let before = out.count();
+    out.send(letter.from, ANSWER, Body::of(alloc, letter.body)?)?;
+    let second = match Body::of(alloc, b"") {
+        Ok(body) => out.send(letter.from, ANSWER, body),
+        Err(refused) => Err(refused),
+    };
+    if second.is_err() {
+        out.cut(before);
+    }
+    second
+}
+
+// Two ranks of a world, and its links.
+#[derive(Drop)]
+struct Pair<H: Handler> {
+    alloc: Global,
+    layout: Layout,
+    near: Comm<H>,
+    far: Comm<H>,
+    links: PlainLinks,
+}
+
+impl<H: Handler> Model for Pair<H> {
+    ghost use Rattle.std.specs.Prelude.{◌≡◌, ◌≢◌, ◌<◌, ◌≤◌, false};
+    ghost use Rattle.world_core.specs.Plain.{Plain};
+    ghost use Rattle.comm_rank.specs.Settled.{IsRankOf};
+
+    ghost Value = { Plain };
+
+    ghost view = { λ pair. pair.links };
+
+    ghost invariant = { λ pair. (pair.near.here ≢ pair.far.here) × (pair.near.here < pair.layout.ranks) × (pair.far.here < pair.layout.ranks)
+        × (pair.links.world.layout ≡ pair.layout) × (1 ≤ pair.links.ring)
+        × (pair.near.stopped ≡ false → IsRankOf H.apply H.start pair.links pair.near.here pair.near)
+        × (pair.far.stopped ≡ false → IsRankOf H.apply H.start pair.links pair.far.here pair.far) };
+}
+
+// A rank that has sent and run nothing.
+fn rank_of<H: Handler>(
+    alloc: Global,
+    layout: Layout,
+    here: u32,
+    limits: Limits,
+    handler: H,
+) -> Result<Comm<H>, Fail>
+    requires below { here < layout.ranks }
+    requires fresh { H.start handler ≡ handler }
+    ensures made { IfOk result (λ comm. comm ≡ fresh_rank layout Direct here limits.letters handler) }
+    ensures agrees { IfOk result (λ comm. Agrees H.apply H.start comm []) }
+{
+    let made = Comm::new(alloc, layout, Scheme::Direct, here, limits, handler);
     Ok(made.ok().ok_or("there is memory for a rank")?)
 }
 
-// Two ranks and their links.
-#[derive(Drop)]
-struct World {
+// A rank sends, if it isn't stopped.
+fn send_by<H: Handler>(
     alloc: Global,
-    comms: Vec<Comm<Echo>>,
-    lists: Lists,
-    ghost world: { IsWorld comms.items lists.ranks },
-    ghost two: { lists.ranks ≡ 2 },
+    comm: &mut Comm<H>,
+    to: u32,
+    tag: u8,
+    first: u8,
+) -> Result<Result<(), CommFault>, Fail>
+    ensures agrees { (log : List Entry) → Agrees H.apply H.start comm.old log → Agrees H.apply H.start comm.new log }
+    ensures stopped { comm.new.stopped ≡ comm.old.stopped }
+    ensures same { IsSameRank comm.old comm.new }
+{
+    if comm.is_stopped() || to >= comm.ranks() || tag >= 240 {
+        return Err("a rank that isn't stopped sends to a rank of its world".into());
+    }
+    Ok(comm.send(to, tag, Body::of(alloc, &[first])?))
 }
 
-impl World {
-    fn new(alloc: Global) -> Result<World, Fail> {
-        let mut comms = Vec::new(alloc);
-        comms.push(rank(alloc, 0)?)?;
-        comms.push(rank(alloc, 1)?)?;
-        let lists = Lists::new(alloc, 2)?;
-        Ok(World {
+// A turn of a rank, if it isn't stopped.
+fn turn_of<H: Handler>(
+    comm: &mut Comm<H>,
+    links: &mut PlainLinks,
+) -> Result<Result<Turn, CommFault>, Fail>
+    requires within { comm.old.here < links.old.world.layout.ranks }
+    requires ready { comm.old.stopped ≡ false → IsRankOf H.apply H.start links.old comm.old.here comm.old }
+    ensures ready { comm.new.stopped ≡ false → IsRankOf H.apply H.start links.new comm.new.here comm.new }
+    ensures here { comm.new.here ≡ comm.old.here }
+    ensures same { SamePost comm.old.here (told_by links.old) (told_by links.new) }
+{
+    if comm.is_stopped() {
+        return Err("a rank that isn't stopped takes a turn".into());
+    }
+    Ok(comm.turn(links))
+}
+
+impl<H: Handler> Pair<H> {
+    // Two of so many ranks, with their numbers and handlers, links that hold so many batches, and limits.
+    fn with(
+        alloc: Global,
+        ranks: u32,
+        near: (u32, H),
+        far: (u32, H),
+        ring: u32,
+        limits: Limits,
+    ) -> Result<Pair<H>, Fail>
+        requires near { H.start near.1 ≡ near.1 }
+        requires far { H.start far.1 ≡ far.1 }
+        requires ring { 1 ≤ ring }
+        requires few { limits.letters ≤ limits.batches }
+    {
+        let layout = Layout::new(ranks, 1)?;
+        if near.0 == far.0 || near.0 >= ranks || far.0 >= ranks {
+            return Err("there are two ranks of the world".into());
+        }
+        Ok(Pair {
             alloc,
-            comms,
-            lists,
+            layout,
+            near: rank_of(alloc, layout, near.0, limits, near.1)?,
+            far: rank_of(alloc, layout, far.0, limits, far.1)?,
+            links: PlainLinks::new(alloc, layout, Scheme::Direct, ring, limits)?,
         })
     }
 
-    fn send(&mut self, from: u32, to: u32, tag: u8, first: u8) -> Result<(), Fail>
-        requires sender { from < 2 }
-        requires destination { to < 2 }
-        requires data { tag < 240 }
-    {
-        let body = Body::of(self.alloc, &[first])?;
-        let comm = &mut self.comms[from as usize];
-        comm.send(&mut self.lists, to, tag, body)?;
+    fn try_send(
+        &mut self,
+        from: u32,
+        to: u32,
+        tag: u8,
+        first: u8,
+    ) -> Result<Result<(), CommFault>, Fail> {
+        if from == self.near.here() {
+            send_by(self.alloc, &mut self.near, to, tag, first)
+        } else if from == self.far.here() {
+            send_by(self.alloc, &mut self.far, to, tag, first)
+        } else {
+            Err("one of the two ranks sends".into())
+        }
+    }
+
+    fn send(&mut self, from: u32, to: u32, tag: u8, first: u8) -> Result<(), Fail> {
+        self.try_send(from, to, tag, first)??;
         Ok(())
     }
 
-    fn settle(&mut self, caller: u32) -> Result<(), Fail>
-        requires { caller < 2 }
-    {
-        settle(self.alloc, &mut self.comms, &mut self.lists, caller)?;
-        Ok(())
+    fn turn(&mut self, rank: u32) -> Result<Result<Turn, CommFault>, Fail> {
+        if rank == self.near.here() {
+            turn_of(&mut self.near, &mut self.links)
+        } else if rank == self.far.here() {
+            turn_of(&mut self.far, &mut self.links)
+        } else {
+            Err("one of the two ranks takes a turn".into())
+        }
     }
 
-    fn comm(&self, rank: u32) -> &Comm<Echo>
-        requires { rank < 2 }
-    {
-        &self.comms[rank as usize]
+    // the destinations of the batches that a rank put, and the lengths of their first bodies, as the log has them
+    fn put_by(&self, rank: u32) -> Result<Vec<(u32, usize)>, Fail> {
+        if rank >= self.layout.ranks() {
+            return Err("a rank of the world puts".into());
+        }
+        let mut puts = Vec::new(self.alloc);
+        for entry in self.links.world().log(rank) {
+            if let Entry::Put { to, letters } = entry {
+                if letters.count() == 0 {
+                    return Err("a batch has a letter".into());
+                }
+                puts.push((*to, letters.letter_at(0).body.len()))?;
+            }
+        }
+        Ok(puts)
     }
 
-    // the first bytes of the letters that ran at a rank
-    fn seen(&self, rank: u32) -> &[u8]
-        requires { rank < 2 }
-    {
-        self.comm(rank).contents().seen.as_slice()
-    }
-
-    fn waiting(&self, from: u32, to: u32) -> usize
-        requires sender { from < 2 }
-        requires destination { to < 2 }
-    {
-        self.lists.waiting(from, to)
+    fn link_len(&self, from: u32, to: u32) -> Result<usize, Fail> {
+        if from >= self.layout.ranks() || to >= self.layout.ranks() {
+            return Err("a link is between ranks of the world".into());
+        }
+        Ok(self.links.world().link_len(from, to))
     }
 }
 
+// Nothing seen.
+fn fresh(alloc: Global) -> Echo
+    ensures { result ≡ [] }
+{
+    Echo {
+        alloc,
+        seen: Vec::new(alloc),
+    }
+}
+
+// Two of so many ranks, links that hold so many batches, and limits.
+fn two_of(
+    alloc: Global,
+    ranks: u32,
+    near: u32,
+    far: u32,
+    ring: u32,
+    limits: Limits,
+) -> Result<Pair<Echo>, Fail>
+    requires ring { 1 ≤ ring }
+    requires few { limits.letters ≤ limits.batches }
+{
+    Pair::with(
+        alloc,
+        ranks,
+        (near, fresh(alloc)),
+        (far, fresh(alloc)),
+        ring,
+        limits,
+    )
+}
+
+// Both ranks of a world of two.
+fn both(alloc: Global, ring: u32, limits: Limits) -> Result<Pair<Echo>, Fail>
+    requires ring { 1 ≤ ring }
+    requires few { limits.letters ≤ limits.batches }
+{
+    two_of(alloc, 2, 0, 1, ring, limits)
+}
+
+// the first bytes of the letters that ran at a rank
+fn seen(comm: &Comm<Echo>) -> &[u8] {
+    comm.contents().seen.as_slice()
+}
+
+fn straight(pair: &mut Pair<Echo>) -> Result<(u64, usize, u32), Fail> {
+    pair.send(1, 6, NOTE, b'a')?;
+    let put = pair.turn(1)??.put;
+    let waiting = pair.link_len(1, 6)?;
+    let took = pair.turn(6)??.took;
+    Ok((put, waiting, took))
+}
+
 #[test]
-fn letters_of_a_link_run_in_order(rt: HostRuntime) -> Result<(), Fail> {
-    let mut world = World::new(rt.alloc())?;
-    world.send(0, 1, NOTE, b'a')?;
-    world.send(0, 1, NOTE, b'b')?;
-    world.send(0, 1, NOTE, b'c')?;
-    assert_eq!(rt; world.waiting(0, 1), 3);
-    assert!(rt; world.seen(1).is_empty());
-    world.settle(0)?;
-    assert_eq!(rt; world.seen(1), b"abc".as_slice());
-    assert!(rt; world.seen(0).is_empty());
-    assert_eq!(rt; world.waiting(0, 1), 0);
+fn letters_go_straight_to_their_ranks(rt: HostRuntime) -> Result<(), Fail> {
+    let mut pair = two_of(rt.alloc(), 8, 1, 6, 1, Limits::FULL)?;
+    assert_eq!(rt; straight(&mut pair)?, (1, 1, 1));
+    assert_eq!(rt; seen(&pair.far), b"a".as_slice());
     Ok(())
 }
 
-#[test]
-fn links_run_in_the_order_of_their_senders(rt: HostRuntime) -> Result<(), Fail> {
-    let mut world = World::new(rt.alloc())?;
-    world.send(1, 1, NOTE, b'x')?;
-    world.send(0, 1, NOTE, b'a')?;
-    world.send(1, 1, NOTE, b'y')?;
-    world.send(0, 1, NOTE, b'b')?;
-    world.settle(0)?;
-    assert_eq!(rt; world.seen(1), b"abxy".as_slice());
-    Ok(())
+// Rank 0 asks, rank 1 answers twice, and rank 0 takes both answers.
+fn asked(pair: &mut Pair<Echo>) -> Result<Vec<(u32, usize)>, Fail> {
+    pair.send(0, 1, ASK, b'q')?;
+    pair.turn(0)??;
+    pair.turn(1)??;
+    pair.turn(0)??;
+    pair.turn(0)??;
+    pair.put_by(1)
 }
 
 #[test]
-fn what_a_handler_sends_waits_for_the_next_barrier(rt: HostRuntime) -> Result<(), Fail> {
-    let mut world = World::new(rt.alloc())?;
-    world.send(1, 0, ASK, b'q')?;
-    world.settle(1)?;
-    assert_eq!(rt; world.seen(0), b"q".as_slice());
-    assert!(rt; world.seen(1).is_empty());
-    assert_eq!(rt; world.waiting(0, 1), 1);
-    assert_eq!(rt; world.comm(0).sent_count(), 1);
-    world.settle(1)?;
-    assert_eq!(rt; world.seen(1), b"q".as_slice());
-    assert_eq!(rt; world.waiting(0, 1), 0);
-    assert_eq!(rt; world.waiting(1, 0), 0);
+fn both_answers_of_a_handler_are_sent_in_order(rt: HostRuntime) -> Result<(), Fail> {
+    let mut pair = both(rt.alloc(), 4, Limits::FULL)?;
+    let put = asked(&mut pair)?;
+    assert_eq!(rt; put.as_slice(), [(0, 1), (0, 0)].as_slice());
+    assert_eq!(rt; seen(&pair.near), [b'q', 0].as_slice());
+    assert_eq!(rt; pair.far.sent_count(), 2);
+    assert_eq!(rt; pair.near.run_count(), 2);
     Ok(())
 }
 
-#[test]
-fn an_answer_goes_behind_what_its_rank_sent_before(rt: HostRuntime) -> Result<(), Fail> {
-    let mut world = World::new(rt.alloc())?;
-    world.send(0, 1, ASK, b'q')?;
-    world.send(1, 0, NOTE, b'n')?;
-    world.settle(0)?;
-    assert_eq!(rt; world.seen(0), b"n".as_slice());
-    world.send(1, 0, NOTE, b'z')?;
-    world.settle(0)?;
-    assert_eq!(rt; world.seen(0), b"nqz".as_slice());
-    assert_eq!(rt; world.comm(1).sent_count(), 3);
-    Ok(())
+// Two letters over a link that holds one batch: what each turn of the sender put, and to whom the link was full.
+fn through_a_full_link(pair: &mut Pair<Echo>) -> Result<[(u64, Option<u32>); 2], Fail> {
+    pair.send(0, 1, NOTE, b'a')?;
+    pair.send(0, 1, NOTE, b'b')?;
+    let first = pair.turn(0)??;
+    pair.turn(1)??;
+    let second = pair.turn(0)??;
+    pair.turn(1)??;
+    Ok([(first.put, first.full), (second.put, second.full)])
 }
 
 #[test]
-fn a_rank_knows_its_place(rt: HostRuntime) -> Result<(), Fail> {
-    let mut world = World::new(rt.alloc())?;
-    assert_eq!(rt; world.lists.ranks(), 2);
-    assert_eq!(rt; world.comm(1).ranks(), 2);
-    assert_eq!(rt; world.comm(1).here(), 1);
-    assert_eq!(rt; world.comm(1).sent_count(), 0);
-    world.send(1, 1, NOTE, 7)?;
-    assert_eq!(rt; world.comm(1).sent_count(), 1);
-    assert_eq!(rt; world.comm(0).sent_count(), 0);
+fn a_full_link_loses_no_batch(rt: HostRuntime) -> Result<(), Fail> {
+    let mut pair = both(rt.alloc(), 1, Limits::FULL)?;
+    let turns = through_a_full_link(&mut pair)?;
+    assert_eq!(rt; turns, [(1, Some(1)), (1, None)]);
+    assert_eq!(rt; seen(&pair.far), b"ab".as_slice());
+    Ok(())
+}
+
+const TWO_LETTERS: Limits = Limits {
+    letters: 2,
+    rounds: 1,
+    batches: 2,
+};
+
+#[test]
+fn a_rank_sends_as_many_letters_as_it_may(rt: HostRuntime) -> Result<(), Fail> {
+    let mut pair = both(rt.alloc(), 4, TWO_LETTERS)?;
+    pair.send(0, 1, NOTE, b'a')?;
+    pair.send(0, 0, NOTE, b'b')?;
+    let third = pair.try_send(0, 1, NOTE, b'c')?;
+    assert!(rt; matches!(third, Err(CommFault::CountFull(_))));
+    assert_eq!(rt; pair.near.sent_count(), 2);
+    Ok(())
+}
+
+// A rank that may send one letter more is asked for two: whether its turn, and then that of the other, failed so.
+fn asked_too_much(pair: &mut Pair<Echo>) -> Result<(bool, bool), Fail> {
+    pair.send(0, 1, ASK, b'q')?;
+    pair.send(1, 0, NOTE, b'n')?;
+    pair.turn(0)??;
+    let full = matches!(pair.turn(1)?, Err(CommFault::CountFull(_)));
+    let stopped = matches!(pair.turn(0)?, Err(CommFault::Stopped));
+    Ok((full, stopped))
+}
+
+#[test]
+fn a_rank_whose_handler_sends_too_many_stops_all(rt: HostRuntime) -> Result<(), Fail> {
+    let mut pair = both(rt.alloc(), 4, TWO_LETTERS)?;
+    assert_eq!(rt; asked_too_much(&mut pair)?, (true, true));
+    assert!(rt; pair.far.is_stopped());
+    assert!(rt; pair.near.is_stopped());
+    assert_eq!(rt; pair.far.run_count(), 0);
     Ok(())
 }
 
@@ -223,11 +409,12 @@ fn faults_are_told_apart(rt: HostRuntime) -> Result<(), Fail> {
     let at = Counter::new(0).raise(1).err().ok_or("1 is above 0")?;
     let text = format!(in rt.alloc(); "{}", CommFault::from(at))?;
     assert_eq!(rt; text.as_str(), "the rank is at its limit of letters");
-    assert_eq!(rt; MOST_LETTERS, 72_057_594_037_927_936);
+    let text = format!(in rt.alloc(); "{}", CommFault::Stopped)?;
+    assert_eq!(rt; text.as_str(), "a rank has stopped");
     Ok(())
 }
 
 #[test]
 fn the_law_holds_at_a_handler() {
-    what_was_sent_ran_or_waits::<Echo>();
+    what_ran_is_the_beginning_of_what_was_sent::<Echo>();
 }

@@ -1,10 +1,21 @@
-ghost use Rattle.std.specs.Prelude.{◌≡◌, ◌≤◌, length, IfOk};
+ghost use Rattle.std.specs.Prelude.{◌≡◌, ◌≤◌, ◌<◌, List, [], false, length, IfOk};
+ghost use Rattle.world_core.specs.declared.entry.Entry.{Entry};
+ghost use Rattle.world_core.specs.Plain.{told_by};
+ghost use Rattle.world_core.specs.Post.{SamePost};
+ghost use Rattle.ygm_route.specs.declared.scheme.Scheme.TheVariants.{Direct};
+ghost use Rattle.comm_rank.specs.Agrees.{Agrees};
+ghost use Rattle.comm_rank.specs.Rank.{IsSameRank, fresh_rank};
+ghost use Rattle.comm_rank.specs.Settled.{IsRankOf};
+ghost use Rattle.counting_set.specs.Counting.{counting_apply};
 
 use super::*;
-use comm_rank::{Comm, Handler, Lists, Outgoing};
+use comm_rank::{Comm, CommFault, Handler, Outgoing, Turn};
 use msg_codec::{LetterRef, put_item_count};
 use std::alloc::{AllocError, Global};
+use std::marker::Model;
 use std::test::*;
+use world_core::{Limits, PlainLinks};
+use ygm_route::{Layout, Scheme};
 
 // Runs an add of so many of an item.
 fn add(alloc: Global, counting: &mut Counting, item: &[u8], count: u64) -> Result<u64, AllocError>
@@ -153,23 +164,163 @@ fn the_published_hashes(rt: HostRuntime) {
     assert_eq!(rt; owner_of_key(b"foobar", 1), 0);
 }
 
+// A rank that has sent and run nothing.
+fn rank_of<H: Handler>(
+    alloc: Global,
+    layout: Layout,
+    here: u32,
+    limits: Limits,
+    handler: H,
+) -> Result<Comm<H>, Fail>
+    requires below { here < layout.ranks }
+    requires fresh { H.start handler ≡ handler }
+    ensures made { IfOk result (λ comm. comm ≡ fresh_rank layout Direct here limits.letters handler) }
+    ensures agrees { IfOk result (λ comm. Agrees H.apply H.start comm []) }
+{
+    let made = Comm::new(alloc, layout, Scheme::Direct, here, limits, handler);
+    Ok(made.ok().ok_or("there is memory for a rank")?)
+}
+
+// A turn of a rank, if it isn't stopped.
+fn turn_of<H: Handler>(comm: &mut Comm<H>, links: &mut PlainLinks) -> Result<Turn, Fail>
+    requires within { comm.old.here < links.old.world.layout.ranks }
+    requires ready { comm.old.stopped ≡ false → IsRankOf H.apply H.start links.old comm.old.here comm.old }
+    ensures ready { comm.new.stopped ≡ false → IsRankOf H.apply H.start links.new comm.new.here comm.new }
+    ensures here { comm.new.here ≡ comm.old.here }
+    ensures same { SamePost comm.old.here (told_by links.old) (told_by links.new) }
+{
+    if comm.is_stopped() {
+        return Err("a rank that isn't stopped takes a turn".into());
+    }
+    Ok(comm.turn(links)?)
+}
+
+// Inserts `a` once and the empty item twice.
+fn insert_three(alloc: Global, comm: &mut Comm<Counting>) -> Result<(), Fail>
+    ensures agrees { (log : List Entry) → Agrees counting_apply (λ _. []) comm.old log → Agrees counting_apply (λ _. []) comm.new log }
+    ensures stopped { comm.new.stopped ≡ comm.old.stopped }
+    ensures same { IsSameRank comm.old comm.new }
+{
+    if comm.is_stopped() {
+        return Err("a rank that isn't stopped inserts".into());
+    }
+    count_insert(alloc, comm, b"a")?;
+    count_insert(alloc, comm, b"")?;
+    count_insert(alloc, comm, b"")?;
+    Ok(())
+}
+
+// The ranks 0 and 1 of a world of two, and its links.
+#[derive(Drop)]
+struct Pair {
+    near: Comm<Counting>,
+    far: Comm<Counting>,
+    links: PlainLinks,
+}
+
+impl Model for Pair {
+    ghost use Rattle.std.specs.Prelude.{◌≡◌, [], false};
+    ghost use Rattle.world_core.specs.Plain.{Plain};
+    ghost use Rattle.comm_rank.specs.Settled.{IsRankOf};
+    ghost use Rattle.counting_set.specs.Counting.{counting_apply};
+
+    ghost Value = { Plain };
+
+    ghost view = { λ pair. pair.links };
+
+    ghost invariant = { λ pair. (pair.near.here ≡ 0) × (pair.far.here ≡ 1) × (pair.links.world.layout.ranks ≡ 2)
+        × (pair.near.stopped ≡ false → IsRankOf counting_apply (λ _. []) pair.links 0 pair.near)
+        × (pair.far.stopped ≡ false → IsRankOf counting_apply (λ _. []) pair.links 1 pair.far) };
+}
+
+impl Pair {
+    // Both ranks have sent and run nothing.
+    fn new(alloc: Global) -> Result<Pair, Fail> {
+        let layout = Layout::new(2, 1)?;
+        let near = Counting::new(alloc)?;
+        let far = Counting::new(alloc)?;
+        Ok(Pair {
+            near: rank_of(alloc, layout, 0, Limits::FULL, near)?,
+            far: rank_of(alloc, layout, 1, Limits::FULL, far)?,
+            links: PlainLinks::new(alloc, layout, Scheme::Direct, 4, Limits::FULL)?,
+        })
+    }
+
+    // Rank 1 inserts, and a turn puts its letters. It answers how many it sent, and how many items it keeps.
+    fn insert(&mut self, alloc: Global) -> Result<(u64, u64), Fail> {
+        insert_three(alloc, &mut self.far)?;
+        turn_of(&mut self.far, &mut self.links)?;
+        Ok((self.far.sent_count(), self.far.contents().len_here()))
+    }
+
+    // Turns of each rank, until all letters ran.
+    fn run_all(&mut self) -> Result<(), Fail> {
+        turn_of(&mut self.near, &mut self.links)?;
+        turn_of(&mut self.far, &mut self.links)?;
+        turn_of(&mut self.far, &mut self.links)?;
+        Ok(())
+    }
+
+    // How many batches wait in each link: from rank 0 to itself and to rank 1, and from rank 1 likewise.
+    fn waiting(&self) -> [usize; 4] {
+        let world = self.links.world();
+        [
+            world.link_len(0, 0),
+            world.link_len(0, 1),
+            world.link_len(1, 0),
+            world.link_len(1, 1),
+        ]
+    }
+}
+
+#[test]
+fn inserts_are_put_into_the_links_to_the_owners(rt: HostRuntime) -> Result<(), Fail> {
+    let mut pair = Pair::new(rt.alloc())?;
+    assert_eq!(rt; pair.insert(rt.alloc())?, (3, 0));
+    assert_eq!(rt; pair.waiting(), [0, 0, 1, 2]);
+    Ok(())
+}
+
+// What both ranks keep once rank 1 has inserted and all letters ran.
+fn shards_after_inserts(alloc: Global) -> Result<(Counting, Counting), Fail> {
+    let mut pair = Pair::new(alloc)?;
+    pair.insert(alloc)?;
+    pair.run_all()?;
+    Ok((pair.near.finish().handler, pair.far.finish().handler))
+}
+
 #[test]
 fn an_item_goes_to_its_owner(rt: HostRuntime) -> Result<(), Fail> {
+    let (near, far) = shards_after_inserts(rt.alloc())?;
+    assert_eq!(rt; entry(&near, 0), Some((b"a".as_slice(), 1)));
+    assert_eq!(rt; entry(&far, 0), Some((b"".as_slice(), 2)));
+    assert_eq!(rt; (near.len_here(), far.len_here()), (1, 1));
+    Ok(())
+}
+
+const ONE_LETTER: Limits = Limits {
+    letters: 1,
+    rounds: 1,
+    batches: 1,
+};
+
+// Whether the second of two inserts is refused because the rank has sent as many letters as it may.
+fn is_second_refused(alloc: Global, comm: &mut Comm<Counting>) -> Result<bool, Fail> {
+    if comm.is_stopped() {
+        return Err("a rank that isn't stopped inserts".into());
+    }
+    count_insert(alloc, comm, b"a")?;
+    let second = count_insert(alloc, comm, b"b");
+    Ok(matches!(second, Err(CommFault::CountFull(_))))
+}
+
+#[test]
+fn a_rank_at_its_limit_inserts_nothing(rt: HostRuntime) -> Result<(), Fail> {
     let alloc = rt.alloc();
-    let mut lists = Lists::new(alloc, 2)?;
     let shard = Counting::new(alloc)?;
-    let Ok(mut comm) = Comm::new(alloc, 2, 1, shard) else {
-        return Err(AllocError.into());
-    };
-    count_insert(alloc, &mut comm, &mut lists, b"a")?;
-    count_insert(alloc, &mut comm, &mut lists, b"")?;
-    count_insert(alloc, &mut comm, &mut lists, b"")?;
-    assert_eq!(rt; lists.waiting(1, 0), 1);
-    assert_eq!(rt; lists.waiting(1, 1), 2);
-    assert_eq!(rt; lists.waiting(0, 0), 0);
-    assert_eq!(rt; lists.waiting(0, 1), 0);
-    assert_eq!(rt; comm.sent_count(), 3);
-    assert_eq!(rt; comm.contents().len_here(), 0);
+    let mut comm = rank_of(alloc, Layout::new(1, 1)?, 0, ONE_LETTER, shard)?;
+    assert!(rt; is_second_refused(alloc, &mut comm)?);
+    assert_eq!(rt; comm.sent_count(), 1);
     Ok(())
 }
 

@@ -7,7 +7,7 @@ use Rattle.std.proofs.lemmas.List.Folds.{length-flat_map-take}
 use Rattle.std.proofs.lemmas.Option.{slice_get-map, slice_get_cases, slice_get_within, get_or_from_slice_get}
 use Rattle.ygm_io.specs.Content.{Told, NothingLeft}
 use Rattle.comm_rank.specs.declared.fault.CommFault.{CommFault}
-use Rattle.comm_rank.specs.declared.fault.CommFault.TheVariants.{CountFull as CommFull, NoMemory as CommNoMemory}
+use Rattle.comm_rank.specs.declared.fault.CommFault.TheVariants.{CountFull as CommFull, NoMemory as CommNoMemory, Stopped as CommStopped}
 use Rattle.ygm_run.specs.declared.status.InputFault.{InputFault}
 use Rattle.ygm_run.specs.declared.status.InputFault.TheVariants.{Read, Bad}
 use Rattle.ygm_run.specs.declared.status.Status.{Status}
@@ -16,7 +16,7 @@ use Rattle.ygm_run.specs.declared.tally.JobFault.{JobFault}
 use Rattle.ygm_run.specs.declared.tally.JobFault.TheVariants.{Input as JobInput, CountFull as JobFull, NoMemory as JobNoMemory}
 use Rattle.ygm_run.specs.declared.words.UsageKind.{UsageKind}
 use Rattle.ygm_run.specs.Ending.{EndsBy, IsDoneIfMemory, IsFirstUnopened, IsNoted, OnDone, Opened, RunEnds, StopsBy, UnlessNoMemory, UnlessWritten, fault_of, status_of}
-use Rattle.ygm_run.specs.Fed.{IfFull}
+use Rattle.comm_rank.specs.Fault.{IfCountFull}
 use Rattle.ygm_run.specs.Inputs.{AllRead, AreRests, IsFullAtRank, IsLowestFault, IsRead, IsRest, good_lines}
 use Rattle.ygm_run.specs.Job.{AreGood, AreTold, lines_of_each, most_letters}
 use Rattle.ygm_run.specs.Lines.{max_line, first_too_long, lines_of, raw_lines, text_of}
@@ -26,9 +26,10 @@ use Rattle.ygm_run.specs.Words.{named}
 use Rattle.ygm_run.proofs.Feeding.{rest_none}
 
 -- a rank's full count is the job's
-pub stops_full : (full : ℕ → ℕ → Type 0) (input : ℕ → InputFault → Type 0) (rank : ℕ) (fault : CommFault) (P : ℕ → Type 0) → ((limit : ℕ) → P limit → full rank limit) → IfFull fault P → StopsBy full input (fault_of rank fault)
+pub stops_full : (full : ℕ → ℕ → Type 0) (input : ℕ → InputFault → Type 0) (rank : ℕ) (fault : CommFault) (P : ℕ → Type 0) → ((limit : ℕ) → P limit → full rank limit) → IfCountFull fault P → StopsBy full input (fault_of rank fault)
 stops_full full input rank (CommFull at) P f p = f at p
 stops_full full input rank CommNoMemory P f p = tt
+stops_full full input rank CommStopped P f p = tt
 
 -- the status of a job's fault has its cause
 pub ends_stopped : (refused : UsageKind → Type 0) (unopened : ℕ → Type 0) (full : ℕ → ℕ → Type 0) (input : ℕ → InputFault → Type 0) (unwritten done : Type 0) (fault : JobFault) → StopsBy full input fault → EndsBy refused unopened full input unwritten done (status_of fault)

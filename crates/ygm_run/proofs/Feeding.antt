@@ -5,30 +5,27 @@ use Rattle.std.specs.List.{AllByRecursion}
 use Rattle.std.proofs.lemmas.List.{append-nil, map-append}
 use Rattle.std.proofs.lemmas.Bool.{le-ltb}
 use Rattle.ygm_io.specs.Content.{Told, NothingLeft}
-use Rattle.comm_rank.specs.Links.{Links}
-use Rattle.comm_rank.specs.Runs.{State}
+use Rattle.world_core.specs.Plain.{Plain}
+use Rattle.comm_rank.specs.Rank.{Rank}
 use Rattle.counting_set.specs.Counting.{Counts}
 use Rattle.ygm_run.specs.Carried.{Carried, letters_of, with_line}
 use Rattle.ygm_run.specs.declared.status.InputFault.{InputFault}
 use Rattle.ygm_run.specs.declared.status.InputFault.TheVariants.{Read, Bad}
 use Rattle.comm_rank.specs.declared.fault.CommFault.{CommFault}
-use Rattle.comm_rank.specs.declared.fault.CommFault.TheVariants.{CountFull, NoMemory}
-use Rattle.ygm_run.specs.Fed.{Fed, FrontTaken, EndedWith, HasLine, IfFull, with_lines}
+use Rattle.comm_rank.specs.Fault.{IfCountFull}
+use Rattle.comm_rank.specs.declared.fault.CommFault.TheVariants.{CountFull, NoMemory, Stopped}
+use Rattle.ygm_run.specs.Fed.{Fed, FrontTaken, EndedWith, HasLine, with_lines}
 use Rattle.ygm_run.specs.Inputs.{IsRead, IsRest, bad_line, good_lines}
 use Rattle.ygm_run.specs.Lines.{max_line, lines_of, raw_lines, text_of, first_too_long, StartsTooLong}
 use Rattle.ygm_run.specs.Reading.{Reading}
 use Rattle.ygm_run.specs.Turns.{to_come, raw_lines_to_come, RawLineTaken}
 
 -- what is on its way depends on each rank's lines alone
-pub same_own : (own other : ℕ → List (List ℕ)) (n : ℕ) (states : List (State Counts)) (links : Links) → ((r : ℕ) → own r ≡ other r) → Carried own n states links → Carried other n states links
-same_own own other n states links same c = record {
-  ran = c.ran;
+pub same_own : (own other : ℕ → List (List ℕ)) (n : ℕ) (comms : List (Rank Counts)) (links : Plain) → ((r : ℕ) → own r ≡ other r) → Carried own n comms links → Carried other n comms links
+same_own own other n comms links same c = record {
   all = c.all;
-  grid = c.grid;
-  contents = c.contents;
-  counted = λ r state e. c.counted r state e ∙ ap length (same r);
-  carried = λ i j f t. ap (letters_of n i j) (sym (same i)) ∙ c.carried i j f t;
-  came = c.came;
+  counted = λ r me e. c.counted r me e ∙ ap length (same r);
+  sent = λ from to me t e. c.sent from to me t e ∙ ap (letters_of n from to) (same from);
   short = λ r. subst (AllByRecursion (λ line. length line ≤ 1000000)) (same r) (c.short r);
   few = λ r. omega (arith, c.few r, ap length (same r));
 }
@@ -58,17 +55,17 @@ All-both [] ys x y = y
 All-both (r ∷ xs) ys x y = (x.0, All-both xs ys x.1 y)
 
 -- nothing was given, and what is to come stands
-pub fed_nothing : (n rank : ℕ) (states : List (State Counts)) (links : Links) (reader now : Reading) (left0 left1 : Told) → to_come now.held left1 ≡ to_come reader.held left0 → now.given ≡ reader.given → Fed n rank states states links links reader now left0 left1
-fed_nothing n rank states links reader now left0 left1 same given = record {
+pub fed_nothing : (n rank : ℕ) (comms : List (Rank Counts)) (links : Plain) (reader now : Reading) (left0 left1 : Told) → to_come now.held left1 ≡ to_come reader.held left0 → now.given ≡ reader.given → Fed n rank comms comms links links reader now left0 left1
+fed_nothing n rank comms links reader now left0 left1 same given = record {
   raws = [];
-  carried = λ own c. same_own own (with_lines own rank []) n states links (λ r. sym (cond_none (eqb r rank) (own r))) c;
+  carried = λ own c. same_own own (with_lines own rank []) n comms links (λ r. sym (cond_none (eqb r rank) (own r))) c;
   taken = raws_by reader.held left0 ∙ ap (option_map raw_lines) (sym same) ∙ sym (raws_by now.held left1) ∙ front_none (raw_lines_to_come now.held left1);
   short = tt;
   given = omega (arith, given);
 }
 
 -- the first line that was to come was given
-pub fed_line : (n rank : ℕ) (before after : List (State Counts)) (old new : Links) (reader now : Reading) (left0 left1 : Told) (line : List ℕ)
+pub fed_line : (n rank : ℕ) (before after : List (Rank Counts)) (old new : Plain) (reader now : Reading) (left0 left1 : Told) (line : List ℕ)
     → RawLineTaken line (raw_lines_to_come reader.held left0) (raw_lines_to_come now.held left1) → now.given ≡ reader.given + 1
     → ((own : ℕ → List (List ℕ)) → Carried own n before old → Carried (with_line own rank line) n after new) → Fed n rank before after old new reader now left0 left1
 fed_line n rank before after old new reader now left0 left1 line raw given carried = record {
@@ -79,7 +76,7 @@ fed_line n rank before after old new reader now left0 left1 line raw given carri
   given = given;
 }
 
-pub fed_more : (n rank : ℕ) (s0 s1 s2 : List (State Counts)) (l0 l1 l2 : Links) (r0 r1 r2 : Reading) (t0 t1 t2 : Told) → Fed n rank s0 s1 l0 l1 r0 r1 t0 t1 → Fed n rank s1 s2 l1 l2 r1 r2 t1 t2 → Fed n rank s0 s2 l0 l2 r0 r2 t0 t2
+pub fed_more : (n rank : ℕ) (s0 s1 s2 : List (Rank Counts)) (l0 l1 l2 : Plain) (r0 r1 r2 : Reading) (t0 t1 t2 : Told) → Fed n rank s0 s1 l0 l1 r0 r1 t0 t1 → Fed n rank s1 s2 l1 l2 r1 r2 t1 t2 → Fed n rank s0 s2 l0 l2 r0 r2 t0 t2
 fed_more n rank s0 s1 s2 l0 l1 l2 r0 r1 r2 t0 t1 t2 p q = record {
   raws = p.raws ++ q.raws;
   carried = λ own c. same_own (with_lines (with_lines own rank (map text_of p.raws)) rank (map text_of q.raws)) (with_lines own rank (map text_of (p.raws ++ q.raws))) n s2 l2
@@ -177,8 +174,9 @@ rest_more a b None (f, p) (g, q) = (f, p ∙ ap (option_map (λ rest. f ++ rest)
 rest_more a b (Some c) (f, p) (g, q) = (f ++ g, p ∙ ap (option_map (λ rest. f ++ rest)) q ∙ ap Some (sym (append_assoc f g c)))
 
 -- a fact of the limit that a full count gave, made of another
-pub full_so : (P Q : ℕ → Type 0) (fault : CommFault) → ((limit : ℕ) → P limit → Q limit) → IfFull fault P → IfFull fault Q
+pub full_so : (P Q : ℕ → Type 0) (fault : CommFault) → ((limit : ℕ) → P limit → Q limit) → IfCountFull fault P → IfCountFull fault Q
 full_so P Q (CountFull at) f p = f at p
+full_so P Q Stopped f p = tt
 full_so P Q NoMemory f p = tt
 
 pub told_so : (P Q : List ℕ → Type 0) (left : Told) → ((bytes : List ℕ) → P bytes → Q bytes) → IfSome left P → IfSome left Q

@@ -4,20 +4,18 @@ use Rattle.std.specs.Option.{option_map}
 use Rattle.std.proofs.lemmas.Bool.{cases_eq, cases_lt, eq-eqb, ne_eqb}
 use Rattle.std.proofs.lemmas.List.{length-map, get_or_past}
 use Rattle.std.proofs.lemmas.Option.{slice_get-map, slice_get_cases, slice_get_within, get_or_from_slice_get}
-use Rattle.comm_rank.specs.declared.comm.Comm.{Comm}
-use Rattle.comm_rank.specs.Links.{Links}
-use Rattle.comm_rank.specs.Rank.{sent_count_of, state_of, states_of}
-use Rattle.comm_rank.specs.Runs.{State}
-use Rattle.comm_rank.proofs.Worlds.{slice_get-set_same, slice_get-set_other, slice_get-set_at}
+use Rattle.world_core.specs.Plain.{Plain}
+use Rattle.comm_rank.specs.Rank.{Rank}
 use Rattle.counting_set.specs.Counting.{Counts}
 use Rattle.ygm_io.specs.Content.{Told}
 use Rattle.ygm_run.specs.declared.status.InputFault.{InputFault}
-use Rattle.ygm_run.specs.Carried.{Carried}
+use Rattle.ygm_run.specs.Carried.{Carried, sent_counts}
 use Rattle.ygm_run.specs.Fed.{IsSent, with_lines}
 use Rattle.ygm_run.specs.Inputs.{AllRead, AreRests, IsFull, IsFullAtRank, IsLowestFault, IsRead, IsRest}
 use Rattle.ygm_run.specs.Job.{AreTold, lines_of_each}
 use Rattle.ygm_run.specs.Lines.{lines_of}
 use Rattle.ygm_run.proofs.Feeding.{same_own, rest_none}
+use Rattle.ygm_run.proofs.Places.{set_at, set_other, set_same}
 
 -- this is the fault of the lowest of the first ranks that has one, with its rank
 abbrev pub LowestBelow : (ℕ → Option InputFault) → ℕ → Option (ℕ × InputFault) → Type 0
@@ -48,10 +46,10 @@ lowest_more fault k new (Some found) now before none some =
     (omega (arith, before.0), at_other fault k found.0 new (λ e. omega (arith, before.0, e)) ∙ before.1, λ r lt. at_other fault k r new (λ e. omega (arith, before.0, lt, e)) ∙ before.2 r lt)
 
 -- The files of the first ranks were read, and the lines before each fault are on their way; the other files are as they were.
-pub record ReadSoFar {S : Type 0} (left : S → Told) (count : S → ℕ) (n : ℕ) (start sources : List S) (k : ℕ) (states : List (State Counts)) (links : Links) (lowest : Option (ℕ × InputFault)) : Type 0 where
+pub record ReadSoFar {S : Type 0} (left : S → Told) (count : S → ℕ) (n : ℕ) (start sources : List S) (k : ℕ) (comms : List (Rank Counts)) (links : Plain) (lowest : Option (ℕ × InputFault)) : Type 0 where
   pub own : ℕ → List (List ℕ)
   pub fault : ℕ → Option InputFault
-  pub carried : Carried own n states links
+  pub carried : Carried own n comms links
   pub above : (r : ℕ) → k ≤ r → own r ≡ []
   pub read : (r : ℕ) (held : Told) (source : S) → r < k → slice_get (map left start) r ≡ Some held → slice_get sources r ≡ Some source → IsRead held (left source) (count source) (fault r)
   pub lines : (r : ℕ) (held : Told) → r < k → fault r ≡ None → slice_get (map left start) r ≡ Some held → IfSome held (λ bytes. own r ≡ lines_of bytes)
@@ -76,8 +74,8 @@ held_at left start r item held at is = one_of (slice_get (map left start) r) (le
 start_at : {X : Type 0} (left : X → Told) (start : List X) (r : ℕ) (held : Told) (source : X) → slice_get (map left start) r ≡ Some held → slice_get start r ≡ Some source → IsRest held (left source)
 start_at left start r held source is at = subst (λ t. IsRest t (left source)) (held_at left start r source held at is) (rest_none (left source))
 
-pub read_none : {S : Type 0} (left : S → Told) (count : S → ℕ) (n : ℕ) (start : List S) (states : List (State Counts)) (links : Links) → Carried (λ _. []) n states links → ReadSoFar left count n start start 0 states links None
-read_none left count n start states links c = record {
+pub read_none : {S : Type 0} (left : S → Told) (count : S → ℕ) (n : ℕ) (start : List S) (comms : List (Rank Counts)) (links : Plain) → Carried (λ _. []) n comms links → ReadSoFar left count n start start 0 comms links None
+read_none left count n start comms links c = record {
   own = λ _. [];
   fault = λ _. None;
   carried = c;
@@ -92,13 +90,13 @@ read_none left count n start states links c = record {
 pub rests_more : {S : Type 0} (left : S → Told) (start sources : List S) (k : ℕ) (item now : S) → AreRests left (map left start) sources → slice_get start k ≡ Some item → IsRest (left item) (left now) → AreRests left (map left start) (set sources k now)
 rests_more left start sources k item now rests at rest r held source is found = elim (cases_eq r k) [
   | inl e ↦
-      let same = slice_get-set_same sources k source now (subst (λ i. slice_get (set sources k now) i ≡ Some source) e found) in
+      let same = set_same sources k source now (subst (λ i. slice_get (set sources k now) i ≡ Some source) e found) in
       let first = held_at left start k item held at (subst (λ i. slice_get (map left start) i ≡ Some held) e is) in
       subst (λ t. IsRest t (left source)) first (subst (λ (x : _). IsRest (left item) (left x)) same rest)
-  | inr ne ↦ rests r held source is (sym (slice_get-set_other sources k r now ne) ∙ found)
+  | inr ne ↦ rests r held source is (sym (set_other sources k r now ne) ∙ found)
 ]
 
-pub read_more : {S : Type 0} (left : S → Told) (count : S → ℕ) (n : ℕ) (start sources : List S) (k : ℕ) (s1 s2 : List (State Counts)) (l1 l2 : Links) (lowest lowest' : Option (ℕ × InputFault)) (item now : S) (new : Option InputFault)
+pub read_more : {S : Type 0} (left : S → Told) (count : S → ℕ) (n : ℕ) (start sources : List S) (k : ℕ) (s1 s2 : List (Rank Counts)) (l1 l2 : Plain) (lowest lowest' : Option (ℕ × InputFault)) (item now : S) (new : Option InputFault)
     → ReadSoFar left count n start sources k s1 l1 lowest → slice_get start k ≡ Some item → IsSent n k s1 s2 l1 l2 (left item) new → IsRead (left item) (left now) (count now) new → IsRest (left item) (left now)
     → (lowest ≡ None → lowest' ≡ option_map (λ found. (k, found)) new) → ((found : ℕ × InputFault) → lowest ≡ Some found → lowest' ≡ lowest)
     → ReadSoFar left count n start (set sources k now) (k + 1) s2 l2 lowest'
@@ -109,11 +107,11 @@ read_more {S} left count n start sources k s1 s2 l1 l2 lowest lowest' item now n
   above = λ r le. with_other so.own k r sent.lines (λ e. omega (arith, le, e)) ∙ so.above r (omega (arith, le));
   read = λ r held source lt is found. elim (cases_eq r k) [
     | inl e ↦
-        let same = slice_get-set_same sources k source now (subst (λ i. slice_get (set sources k now) i ≡ Some source) e found) in
+        let same = set_same sources k source now (subst (λ i. slice_get (set sources k now) i ≡ Some source) e found) in
         let first = held_at left start k item held at (subst (λ i. slice_get (map left start) i ≡ Some held) e is) in
         subst (IsRead held (left source) (count source)) (sym (at_same so.fault k r new e))
         (subst (λ t. IsRead t (left source) (count source) new) first (subst (λ (x : S). IsRead (left item) (left x) (count x) new) same isread))
-    | inr ne ↦ subst (IsRead held (left source) (count source)) (sym (at_other so.fault k r new ne)) (so.read r held source (omega (arith, lt, ne)) is (sym (slice_get-set_other sources k r now ne) ∙ found))
+    | inr ne ↦ subst (IsRead held (left source) (count source)) (sym (at_other so.fault k r new ne)) (so.read r held source (omega (arith, lt, ne)) is (sym (set_other sources k r now ne) ∙ found))
   ];
   lines = λ r held lt no is. elim (cases_eq r k) [
     | inl e ↦
@@ -125,23 +123,23 @@ read_more {S} left count n start sources k s1 s2 l1 l2 lowest lowest' item now n
         subst (λ (w : List (List ℕ)). IfSome held (λ bytes. w ≡ lines_of bytes)) (sym (with_other so.own k r sent.lines ne))
         (so.lines r held (omega (arith, lt, ne)) (sym (at_other so.fault k r new ne) ∙ no) is)
   ];
-  untouched = λ r le. slice_get-set_other sources k r now (λ e. omega (arith, le, e)) ∙ so.untouched r (omega (arith, le));
+  untouched = λ r le. set_other sources k r now (λ e. omega (arith, le, e)) ∙ so.untouched r (omega (arith, le));
   rests = rests_more left start sources k item now so.rests at rest;
   lowest_is = lowest_more so.fault k new lowest lowest' so.lowest_is none some;
 }
 
 -- a rank of which nothing was read has sent nothing
-pub unsent : (comms : List (Comm Counts)) (k : ℕ) → ((state : State Counts) → slice_get (states_of comms) k ≡ Some state → state.sent ≡ 0) → get_or (map sent_count_of comms) k 0 ≡ 0
+pub unsent : (comms : List (Rank Counts)) (k : ℕ) → ((me : Rank Counts) → slice_get comms k ≡ Some me → me.sent_count ≡ 0) → get_or (sent_counts comms) k 0 ≡ 0
 unsent [] k h = refl
-unsent (x ∷ xs) zero h = h (state_of x) refl
+unsent (x ∷ xs) zero h = h x refl
 unsent (x ∷ xs) (suc k) h = unsent xs k h
 
-pub unsent_so_far : {S : Type 0} (left : S → Told) (count : S → ℕ) (n : ℕ) (start sources : List S) (k : ℕ) (comms : List (Comm Counts)) (links : Links) (lowest : Option (ℕ × InputFault)) → ReadSoFar left count n start sources k (states_of comms) links lowest → get_or (map sent_count_of comms) k 0 ≡ 0
+pub unsent_so_far : {S : Type 0} (left : S → Told) (count : S → ℕ) (n : ℕ) (start sources : List S) (k : ℕ) (comms : List (Rank Counts)) (links : Plain) (lowest : Option (ℕ × InputFault)) → ReadSoFar left count n start sources k comms links lowest → get_or (sent_counts comms) k 0 ≡ 0
 unsent_so_far left count n start sources k comms links lowest so = unsent comms k (λ state at. so.carried.counted k state at ∙ ap length (so.above k (omega arith)))
 
 -- all files were read to their ends
-pub all_read : {S : Type 0} (left : S → Told) (count : S → ℕ) (n : ℕ) (start sources : List S) (k : ℕ) (states : List (State Counts)) (links : Links) → length sources ≡ n → n ≤ k → ReadSoFar left count n start sources k states links None → AllRead left count (map left start) sources
-all_read left count n start sources k states links all end so r held source is at =
+pub all_read : {S : Type 0} (left : S → Told) (count : S → ℕ) (n : ℕ) (start sources : List S) (k : ℕ) (comms : List (Rank Counts)) (links : Plain) → length sources ≡ n → n ≤ k → ReadSoFar left count n start sources k comms links None → AllRead left count (map left start) sources
+all_read left count n start sources k comms links all end so r held source is at =
     let within : r < length sources = slice_get_within sources r source at in
     let lt : r < k = omega (arith, within, all, end) in
     subst (IsRead held (left source) (count source)) (so.lowest_is r lt) (so.read r held source lt is at)
@@ -154,12 +152,12 @@ told_at lefts bytes r told lt = elim (slice_get_cases bytes r).1 [
 ]
 
 -- the lines of all files are on their way
-pub all_sent : {S : Type 0} (left : S → Told) (count : S → ℕ) (n : ℕ) (start sources : List S) (k : ℕ) (states : List (State Counts)) (links : Links) → length start ≡ n → n ≤ k → k ≤ n → ReadSoFar left count n start sources k states links None
-    → (bytes : List (List ℕ)) → AreTold (map left start) bytes → Carried (λ rank. get_or (lines_of_each bytes) rank []) n states links
-all_sent left count n start sources k states links all end within so bytes told =
+pub all_sent : {S : Type 0} (left : S → Told) (count : S → ℕ) (n : ℕ) (start sources : List S) (k : ℕ) (comms : List (Rank Counts)) (links : Plain) → length start ≡ n → n ≤ k → k ≤ n → ReadSoFar left count n start sources k comms links None
+    → (bytes : List (List ℕ)) → AreTold (map left start) bytes → Carried (λ rank. get_or (lines_of_each bytes) rank []) n comms links
+all_sent left count n start sources k comms links all end within so bytes told =
     let files = lines_of_each bytes in
     let many : length bytes ≡ n = sym (length-map bytes Some) ∙ sym (ap length told) ∙ length-map start left ∙ all in
-    same_own so.own (λ rank. get_or files rank []) n states links
+    same_own so.own (λ rank. get_or files rank []) n comms links
     (λ r. elim (cases_lt r n) [
       | inl lt ↦
           let b = told_at (map left start) bytes r told (omega (arith, lt, many)) in
@@ -170,9 +168,9 @@ all_sent left count n start sources k states links all end within so bytes told 
     so.carried
 
 -- the lowest fault is told
-pub lowest_told : {S : Type 0} (left : S → Told) (count : S → ℕ) (n : ℕ) (start sources : List S) (k : ℕ) (states : List (State Counts)) (links : Links) (found : ℕ × InputFault) → length sources ≡ n → n ≤ k → k ≤ n → ReadSoFar left count n start sources k states links (Some found)
+pub lowest_told : {S : Type 0} (left : S → Told) (count : S → ℕ) (n : ℕ) (start sources : List S) (k : ℕ) (comms : List (Rank Counts)) (links : Plain) (found : ℕ × InputFault) → length sources ≡ n → n ≤ k → k ≤ n → ReadSoFar left count n start sources k comms links (Some found)
     → IsLowestFault left count (map left start) sources found.0 found.1
-lowest_told left count n start sources k states links found all end within so = record {
+lowest_told left count n start sources k comms links found all end within so = record {
   fault = so.fault;
   read = λ r held source is at. so.read r held source (let w : r < length sources = slice_get_within sources r source at in omega (arith, w, all, end)) is at;
   within = omega (arith, so.lowest_is.0, all, within);
@@ -182,4 +180,4 @@ lowest_told left count n start sources k states links found all end within so = 
 
 -- a rank's count is full
 pub full_at : {S : Type 0} (left : S → Told) (count : S → ℕ) (start sources : List S) (k : ℕ) (item now : S) (limit : ℕ) → slice_get start k ≡ Some item → k < length sources → IsFull (left item) (count now) limit → IsFullAtRank count (map left start) (set sources k now) k limit
-full_at left count start sources k item now limit at lt full = (left item, now, slice_get-map left start k ∙ ap (option_map left) at, slice_get-set_at sources k now lt, full)
+full_at left count start sources k item now limit at lt full = (left item, now, slice_get-map left start k ∙ ap (option_map left) at, set_at sources k now lt, full)

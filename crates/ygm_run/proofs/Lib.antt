@@ -11,6 +11,7 @@ pub mod Members
 pub mod NoteLines
 pub mod Owned
 pub mod Parts
+pub mod Places
 pub mod Senders
 pub mod Shards
 pub mod Table

@@ -2,9 +2,12 @@
 use Rattle.std.specs.Prelude.{◌≡◌, ℕ, ◌<◌, ◌≤◌, ◌^◌, ◌==◌, List, [], ◌∷◌, ◌++◌, Some, length, map, filter, flat_map, slice_get, if◌then◌else◌}
 use Rattle.std.specs.List.{AllByRecursion}
 use Rattle.msg_codec.specs.declared.letter.Letter.{Letter}
-use Rattle.comm_rank.specs.Fold.{fold_from, letters_from}
-use Rattle.comm_rank.specs.Links.{Links, waiting}
-use Rattle.comm_rank.specs.Runs.{State, CameTo}
+use Rattle.ygm_route.specs.declared.scheme.Scheme.TheVariants.{Direct}
+use Rattle.ygm_route.specs.Layout.{Shape}
+use Rattle.world_core.specs.Plain.{Plain}
+use Rattle.world_core.specs.World.{log_of}
+use Rattle.comm_rank.specs.Rank.{Rank, fresh_rank, ran_from, sent_to}
+use Rattle.comm_rank.specs.Settled.{AreRanks}
 use Rattle.counting_set.specs.Counting.{Counts, counting_apply, add_letter}
 use Rattle.counting_set.specs.Owner.{owner_of_key}
 
@@ -12,16 +15,25 @@ use Rattle.counting_set.specs.Owner.{owner_of_key}
 abbrev pub letters_of : ℕ → ℕ → ℕ → List (List ℕ) → List Letter
 letters_of ranks from to lines = map (add_letter to from) (filter (λ line. owner_of_key line ranks == to) lines)
 
--- The lines that ranks have sent so far, own, are on their way: of each link the letters are those that ran at
--- its end and then those that wait, what a rank keeps is folded by what ran there, and each line is counted.
-pub record Carried (own : ℕ → List (List ℕ)) (ranks : ℕ) (states : List (State Counts)) (links : Links) : Type 0 where
-  pub ran : ℕ → List Letter
-  pub all : length states ≡ ranks
-  pub grid : links.ranks ≡ ranks
-  pub contents : (rank : ℕ) (state : State Counts) → slice_get states rank ≡ Some state → state.contents ≡ fold_from counting_apply rank ranks [] (ran rank)
-  pub counted : (rank : ℕ) (state : State Counts) → slice_get states rank ≡ Some state → state.sent ≡ length (own rank)
-  pub carried : (from to : ℕ) → from < ranks → to < ranks → letters_of ranks from to (own from) ≡ letters_from from (ran to) ++ waiting links from to
-  pub came : (rank : ℕ) → AllByRecursion (CameTo ranks rank) (ran rank)
+-- how many letters each rank has sent
+abbrev pub sent_counts : List (Rank Counts) → List ℕ
+sent_counts comms = map (λ (me : Rank Counts). me.sent_count) comms
+
+-- all ranks of the links' world, each with its part of a counting set, which may go on and may send up to the limit
+pub record AreReady (comms : List (Rank Counts)) (links : Plain) : Type 0 where
+  pub ranks : AreRanks counting_apply (λ _. []) comms links
+  pub most : (rank : ℕ) (me : Rank Counts) → slice_get comms rank ≡ Some me → me.most ≡ 2 ^ 56
+
+-- each rank has sent and run nothing
+abbrev pub AreFresh : Shape → List (Rank Counts) → Type 0
+AreFresh layout comms = (rank : ℕ) (me : Rank Counts) → slice_get comms rank ≡ Some me → me ≡ fresh_rank layout Direct rank (2 ^ 56) []
+
+-- The lines that ranks gave so far, own, were sent: to each rank the letters of those that it owns, in order, and
+-- no others.
+pub record Carried (own : ℕ → List (List ℕ)) (ranks : ℕ) (comms : List (Rank Counts)) (links : Plain) : Type 0 where
+  pub all : length comms ≡ ranks
+  pub counted : (rank : ℕ) (me : Rank Counts) → slice_get comms rank ≡ Some me → me.sent_count ≡ length (own rank)
+  pub sent : (from to : ℕ) (me : Rank Counts) → to < ranks → slice_get comms from ≡ Some me → sent_to me (log_of links.world from) to ≡ letters_of ranks from to (own from)
   pub short : (rank : ℕ) → AllByRecursion (λ line. length line ≤ 1000000) (own rank)
   pub few : (rank : ℕ) → length (own rank) ≤ 2 ^ 56
 
@@ -29,18 +41,24 @@ pub record Carried (own : ℕ → List (List ℕ)) (ranks : ℕ) (states : List 
 abbrev pub with_line : (ℕ → List (List ℕ)) → ℕ → List ℕ → ℕ → List (List ℕ)
 with_line own rank line other = if other == rank then own other ++ line ∷ [] else own other
 
--- no letter waits
-abbrev pub IsQuiet : Links → Type 0
-IsQuiet links = (from to : ℕ) → from < links.ranks → to < links.ranks → waiting links from to ≡ []
+-- all that a rank has sent has run
+abbrev pub IsQuietFrom : List (Rank Counts) → Plain → ℕ → Type 0
+IsQuietFrom comms links from = (to : ℕ) (sender me : Rank Counts) → slice_get comms from ≡ Some sender → slice_get comms to ≡ Some me →
+    ran_from me (log_of links.world to) from ≡ sent_to sender (log_of links.world from) to
 
--- no letter of a rank waits
-abbrev pub IsQuietFrom : Links → ℕ → Type 0
-IsQuietFrom links from = (to : ℕ) → to < links.ranks → waiting links from to ≡ []
+-- all that ranks have sent has run
+abbrev pub IsQuiet : List (Rank Counts) → Plain → Type 0
+IsQuiet comms links = (from : ℕ) → from < length comms → IsQuietFrom comms links from
 
--- each rank keeps nothing and has sent nothing
-abbrev pub AreFresh : List (State Counts) → Type 0
-AreFresh states = AllByRecursion (λ (state : State Counts). (state.contents ≡ []) × (state.sent ≡ 0)) states
+-- What the weak barrier of a rank leaves: the same lines are on their way, all that the caller has sent has run, and
+-- so has still what had all run before. No rank has sent more.
+pub record HasSettled (caller : ℕ) (before after : List (Rank Counts)) (old new : Plain) : Type 0 where
+  pub ready : AreReady after new
+  pub carried : (own : ℕ → List (List ℕ)) (ranks : ℕ) → Carried own ranks before old → Carried own ranks after new
+  pub quiet : IsQuietFrom after new caller
+  pub stays : (from : ℕ) → IsQuietFrom before old from → IsQuietFrom after new from
+  pub counted : sent_counts after ≡ sent_counts before
 
 -- what all ranks keep, one rank after another
-abbrev pub kept : List (State Counts) → Counts
-kept states = flat_map (λ (state : State Counts). state.contents) states
+abbrev pub kept : List (Rank Counts) → Counts
+kept comms = flat_map (λ (me : Rank Counts). me.contents) comms

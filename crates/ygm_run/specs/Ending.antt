@@ -3,7 +3,7 @@ use Rattle.std.specs.Prelude.{◌≡◌, ◌⊎◌, ℕ, ◌<◌, List, [], Resu
 use Rattle.ygm_io.specs.Content.{Told, AppendedTo}
 use Rattle.ygm_io.specs.Faults.{Rose}
 use Rattle.comm_rank.specs.declared.fault.CommFault.{CommFault}
-use Rattle.comm_rank.specs.declared.fault.CommFault.TheVariants.{CountFull as CommFull, NoMemory as CommNoMemory}
+use Rattle.comm_rank.specs.declared.fault.CommFault.TheVariants.{CountFull as CommFull, NoMemory as CommNoMemory, Stopped as CommStopped}
 use Rattle.ygm_run.specs.declared.status.InputFault.{InputFault}
 use Rattle.ygm_run.specs.declared.status.InputFault.TheVariants.{Read, Bad}
 use Rattle.ygm_run.specs.declared.status.Status.{Status}
@@ -124,3 +124,4 @@ StopsBy full fault JobNoMemory = ⊤
 abbrev pub fault_of : ℕ → CommFault → JobFault
 fault_of rank (CommFull at) = JobFull rank at
 fault_of rank CommNoMemory = JobNoMemory
+fault_of rank CommStopped = JobNoMemory

@@ -1,13 +1,11 @@
 -- Lines of a rank's input that were given to the world.
-use Rattle.std.specs.Prelude.{◌≡◌, ℕ, ◌+◌, ◌-◌, ◌*◌, ◌≤◌, ◌^◌, ◌==◌, List, ◌∷◌, ◌++◌, Option, None, Some, IfSome, length, map, if◌then◌else◌, ⊤, []}
+use Rattle.std.specs.Prelude.{◌≡◌, ℕ, ◌+◌, ◌-◌, ◌*◌, ◌≤◌, ◌^◌, ◌==◌, List, ◌∷◌, ◌++◌, Option, None, Some, IfSome, length, map, if◌then◌else◌, []}
 use Rattle.std.specs.List.{AllByRecursion}
 use Rattle.std.specs.Option.{option_map}
 use Rattle.ygm_io.specs.Content.{Told, NothingLeft}
 use Rattle.ygm_io.specs.Faults.{Rose}
-use Rattle.comm_rank.specs.Links.{Links}
-use Rattle.comm_rank.specs.Runs.{State}
-use Rattle.comm_rank.specs.declared.fault.CommFault.{CommFault}
-use Rattle.comm_rank.specs.declared.fault.CommFault.TheVariants.{CountFull, NoMemory}
+use Rattle.world_core.specs.Plain.{Plain}
+use Rattle.comm_rank.specs.Rank.{Rank}
 use Rattle.counting_set.specs.Counting.{Counts}
 use Rattle.ygm_run.specs.declared.status.InputFault.{InputFault}
 use Rattle.ygm_run.specs.declared.status.InputFault.TheVariants.{Read, Bad}
@@ -25,7 +23,7 @@ abbrev pub FrontTaken : List (List ℕ) → Option (List (List ℕ)) → Option 
 FrontTaken front before now = before ≡ option_map (λ lines. front ++ lines) now
 
 -- The world was given lines of a rank: they are on their way, and were the first that were to come. None was too long.
-pub record Fed (ranks rank : ℕ) (before after : List (State Counts)) (old new : Links) (reader reader_now : Reading) (left left_now : Told) : Type 0 where
+pub record Fed (ranks rank : ℕ) (before after : List (Rank Counts)) (old new : Plain) (reader reader_now : Reading) (left left_now : Told) : Type 0 where
   pub raws : List (List ℕ)
   pub carried : (own : ℕ → List (List ℕ)) → Carried own ranks before old → Carried (with_lines own rank (map text_of raws)) ranks after new
   pub taken : FrontTaken raws (raw_lines_to_come reader.held left) (raw_lines_to_come reader_now.held left_now)
@@ -47,13 +45,8 @@ EndedWith (Some (Bad line why)) reader left faults faults_now = IfSome (to_come 
 abbrev pub HasLine : Option (List (List ℕ)) → Type 0
 HasLine lines = (raw : List ℕ) × (rest : Option (List (List ℕ))) × (length raw ≤ max_line) × (lines ≡ option_map (λ later. raw ∷ later) rest)
 
--- a fact of the limit that a full count gave
-abbrev pub IfFull : CommFault → (ℕ → Type 0) → Type 0
-IfFull (CountFull at) P = P at
-IfFull NoMemory P = ⊤
-
 -- The lines of a rank's bytes are on their way, all of them where the input has no fault.
-pub record IsSent (ranks rank : ℕ) (before after : List (State Counts)) (old new : Links) (left : Told) (fault : Option InputFault) : Type 0 where
+pub record IsSent (ranks rank : ℕ) (before after : List (Rank Counts)) (old new : Plain) (left : Told) (fault : Option InputFault) : Type 0 where
   pub lines : List (List ℕ)
   pub carried : (own : ℕ → List (List ℕ)) → Carried own ranks before old → Carried (with_lines own rank lines) ranks after new
   pub all : fault ≡ None → IfSome left (λ bytes. lines ≡ lines_of bytes)

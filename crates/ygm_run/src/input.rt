@@ -1,7 +1,8 @@
 //! A rank's file, from its bytes to letters on their way.
-ghost use Rattle.std.specs.Prelude.{◌≡◌, ◌<◌, ◌≤◌, ◌+◌, ◌^◌, ℕ, List, false, true, map, slice_index, IfOk, IfErr, OnOk};
-ghost use Rattle.comm_rank.specs.Rank.{states_of, sent_count_of};
-ghost use Rattle.ygm_run.specs.Fed.{EndedWith, Fed, HasLine, IfFull, IsSent, turns_left};
+ghost use Rattle.std.specs.Prelude.{◌≡◌, ◌<◌, ◌≤◌, ◌+◌, ◌^◌, false, true, slice_index, IfOk, IfErr, OnOk};
+ghost use Rattle.comm_rank.specs.Fault.{IfCountFull};
+ghost use Rattle.ygm_run.specs.Carried.{AreReady, sent_counts};
+ghost use Rattle.ygm_run.specs.Fed.{EndedWith, Fed, HasLine, IsSent, turns_left};
 ghost use Rattle.ygm_run.specs.Inputs.{IsFull, IsRead, IsRest};
 ghost use Rattle.ygm_run.specs.Turns.{raw_lines_to_come};
 
@@ -21,20 +22,22 @@ fn take_turn<S: Source>(
     source: &mut S,
 ) -> Result<Option<InputFault>, CommFault>
     requires below { rank < world.old.ranks }
+    requires ready { AreReady world.old.comms.items world.old.links }
     requires open { reader.old.done ≡ false }
     requires few { reader.old.given ≤ 2 ^ 56 }
-    ensures fed { OnOk result (Fed world.old.ranks rank (states_of world.old.comms.items) (states_of world.new.comms.items) world.old.lists world.new.lists
+    ensures ready { OnOk result (AreReady world.new.comms.items world.new.links) }
+    ensures fed { OnOk result (Fed world.old.ranks rank world.old.comms.items world.new.comms.items world.old.links world.new.links
         reader.old reader.new (S.left source.old) (S.left source.new)) }
-    ensures sent { OnOk result (reader.new.given + slice_index (map sent_count_of world.old.comms.items) rank
-        ≡ reader.old.given + slice_index (map sent_count_of world.new.comms.items) rank) }
-    ensures bound { OnOk result (slice_index (map sent_count_of world.old.comms.items) rank ≤ 2 ^ 56
-        → slice_index (map sent_count_of world.new.comms.items) rank ≤ 2 ^ 56) }
+    ensures sent { OnOk result (reader.new.given + slice_index (sent_counts world.old.comms.items) rank
+        ≡ reader.old.given + slice_index (sent_counts world.new.comms.items) rank) }
+    ensures bound { OnOk result (slice_index (sent_counts world.old.comms.items) rank ≤ 2 ^ 56
+        → slice_index (sent_counts world.new.comms.items) rank ≤ 2 ^ 56) }
     ensures nearer { OnOk result (reader.new.done ≡ false →
-        turns_left (slice_index (map sent_count_of world.new.comms.items) rank) reader.new.held
-        < turns_left (slice_index (map sent_count_of world.old.comms.items) rank) reader.old.held) }
+        turns_left (slice_index (sent_counts world.new.comms.items) rank) reader.new.held
+        < turns_left (slice_index (sent_counts world.old.comms.items) rank) reader.old.held) }
     ensures ended { IfOk result (λ fault. reader.new.done ≡ true → EndedWith fault reader.new (S.left source.new) (S.faults source.old) (S.faults source.new)) }
     ensures going_on { OnOk result (reader.new.done ≡ false → S.faults source.new ≡ S.faults source.old) }
-    ensures full { IfErr result (λ fault. IfFull fault (λ limit. (limit ≡ 2 ^ 56) × (2 ^ 56 ≤ slice_index (map sent_count_of world.old.comms.items) rank)
+    ensures full { IfErr result (λ fault. IfCountFull fault (λ limit. (limit ≡ 2 ^ 56) × (2 ^ 56 ≤ slice_index (sent_counts world.old.comms.items) rank)
         × (S.faults source.new ≡ S.faults source.old) × HasLine (raw_lines_to_come reader.old.held (S.left source.old)))) }
     ensures rest { IsRest (S.left source.old) (S.left source.new) }
     ensures ranks { world.new.ranks ≡ world.old.ranks }
@@ -63,11 +66,13 @@ pub(crate) fn read_file<S: Source>(
     source: &mut S,
 ) -> Result<Option<InputFault>, CommFault>
     requires below { rank < world.old.ranks }
-    requires unsent { slice_index (map sent_count_of world.old.comms.items) rank ≡ 0 }
+    requires ready { AreReady world.old.comms.items world.old.links }
+    requires unsent { slice_index (sent_counts world.old.comms.items) rank ≡ 0 }
     requires fresh { S.faults source.old ≡ 0 }
-    ensures sent { IfOk result (IsSent world.old.ranks rank (states_of world.old.comms.items) (states_of world.new.comms.items) world.old.lists world.new.lists (S.left source.old)) }
+    ensures ready { OnOk result (AreReady world.new.comms.items world.new.links) }
+    ensures sent { IfOk result (IsSent world.old.ranks rank world.old.comms.items world.new.comms.items world.old.links world.new.links (S.left source.old)) }
     ensures read { IfOk result (IsRead (S.left source.old) (S.left source.new) (S.faults source.new)) }
-    ensures full { IfErr result (λ fault. IfFull fault (IsFull (S.left source.old) (S.faults source.new))) }
+    ensures full { IfErr result (λ fault. IfCountFull fault (IsFull (S.left source.old) (S.faults source.new))) }
     ensures rest { IsRest (S.left source.old) (S.left source.new) }
     ensures ranks { world.new.ranks ≡ world.old.ranks }
 {

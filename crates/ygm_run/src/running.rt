@@ -2,7 +2,7 @@
 ghost use Rattle.std.specs.Prelude.{◌≡◌, ◌<◌, ◌≤◌, ◌^◌, ℕ, List, [], Ok, Err, Some, IfErr, OnOk, length, map, slice_get, take};
 ghost use Rattle.ygm_io.specs.Content.{AppendedTo, NothingLeft};
 ghost use Rattle.ygm_io.specs.Faults.{Rose};
-ghost use Rattle.ygm_run.specs.Ending.{EndsBy, FrontAppended, IsDoneIfMemory, IsFirstUnopened, IsNoted, OnDone, OnWriteFault, RunEnds, UnlessNoMemory, UnlessWritten, status_of};
+ghost use Rattle.ygm_run.specs.Ending.{EndsBy, FrontAppended, IsDoneIfMemory, IsNoted, OnDone, OnWriteFault, RunEnds, UnlessNoMemory, UnlessWritten, status_of};
 ghost use Rattle.ygm_run.specs.Inputs.{AllRead, AreRests, IsFullAtRank, IsLowestFault};
 ghost use Rattle.ygm_run.specs.Job.{AreGood, AreTold, lines_of_each, most_letters};
 ghost use Rattle.ygm_run.specs.Notes.{FileIsBelow, note_text};

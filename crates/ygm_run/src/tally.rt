@@ -1,8 +1,7 @@
 //! The job `tally`: how often each line stands in the files.
 ghost use Rattle.std.specs.Prelude.{◌≡◌, ◌<◌, ◌≤◌, ℕ, List, [], Some, map, length, slice_get, slice_index_or, IfOk, IfErr, OnOk};
 ghost use Rattle.std.specs.Option.{option_map};
-ghost use Rattle.comm_rank.specs.Rank.{states_of};
-ghost use Rattle.ygm_run.specs.Carried.{Carried};
+ghost use Rattle.ygm_run.specs.Carried.{AreReady, Carried};
 ghost use Rattle.ygm_run.specs.Ending.{StopsBy, fault_of};
 ghost use Rattle.ygm_run.specs.Inputs.{AllRead, AreRests, IsFullAtRank, IsLowestFault};
 ghost use Rattle.ygm_run.specs.Job.{AreTold, lines_of_each};
@@ -15,6 +14,7 @@ use comm_rank::CommFault;
 use msg_codec::AtLimit;
 use std::alloc::{AllocError, Global};
 use ygm_io::Source;
+use ygm_route::Layout;
 
 /// Why the job has no text.
 #[derive(Clone, Copy, Debug, PartialEq, Eq)]
@@ -44,6 +44,8 @@ impl JobFault {
     {
         match fault {
             CommFault::CountFull(at) => JobFault::CountFull { rank, at },
+            // A rank raises the stop where it ends the run, so that no other meets it.
+            CommFault::Stopped => JobFault::NoMemory,
             CommFault::NoMemory => JobFault::NoMemory,
         }
     }
@@ -61,9 +63,11 @@ fn with_rank(rank: u32, fault: Option<InputFault>) -> Option<(u32, InputFault)>
 fn read_all<S: Source>(alloc: Global, world: &mut World, sources: &mut [S]) -> Result<(), JobFault>
     requires all { length sources.old ≡ world.old.ranks }
     requires fresh { (rank : ℕ) (source : S) → slice_get sources.old rank ≡ Some source → S.faults source ≡ 0 }
-    requires nothing_sent { Carried (λ _. []) world.old.ranks (states_of world.old.comms.items) world.old.lists }
+    requires ready { AreReady world.old.comms.items world.old.links }
+    requires nothing_sent { Carried (λ _. []) world.old.ranks world.old.comms.items world.old.links }
+    ensures ready { OnOk result (AreReady world.new.comms.items world.new.links) }
     ensures sent { OnOk result ((bytes : List (List ℕ)) → AreTold (map S.left sources.old) bytes
-        → Carried (λ rank. slice_index_or (lines_of_each bytes) rank []) world.old.ranks (states_of world.new.comms.items) world.new.lists) }
+        → Carried (λ rank. slice_index_or (lines_of_each bytes) rank []) world.old.ranks world.new.comms.items world.new.links) }
     ensures read { OnOk result (AllRead S.left S.faults (map S.left sources.old) sources.new) }
     ensures cause { IfErr result (StopsBy (IsFullAtRank S.faults (map S.left sources.old) sources.new)
         (IsLowestFault S.left S.faults (map S.left sources.old) sources.new)) }
@@ -95,11 +99,14 @@ pub(crate) fn tally<S: Source>(alloc: Global, sources: &mut [S]) -> Result<Vec<u
         (IsLowestFault S.left S.faults (map S.left sources.old) sources.new)) }
     ensures rests { AreRests S.left (map S.left sources.old) sources.new }
 {
-    let mut world = World::new(alloc, sources.len() as u32)?;
+    let Ok(layout) = Layout::new(sources.len() as u32, 1) else {
+        return Err(JobFault::NoMemory);
+    };
+    let mut world = World::new(alloc, layout)?;
     read_all(alloc, &mut world, sources)?;
     match world.drain() {
         Ok(()) => Ok(world.text()?),
-        // A drain is refused for want of memory alone.
+        // A drain is refused for want of memory alone: no rank has raised the stop.
         Err(_) => Err(JobFault::NoMemory),
     }
 }

@@ -1,17 +1,22 @@
 //! Ranks on one thread, each with its part of a counting set.
-ghost use Rattle.std.specs.Prelude.{◌≡◌, ◌<◌, ◌≤◌, ◌+◌, ◌^◌, ℕ, List, [], ◌++◌, map, length, slice_index, IfOk, IfErr, OnOk, OnErr};
-ghost use Rattle.comm_rank.specs.Fault.{IsFullAt};
-ghost use Rattle.comm_rank.specs.Rank.{states_of, sent_count_of, IsWorld};
-ghost use Rattle.ygm_run.specs.Carried.{AreFresh, Carried, IsQuiet, IsQuietFrom, kept, with_line};
+ghost use Rattle.std.specs.Prelude.{◌≡◌, ◌<◌, ◌≤◌, ◌+◌, ◌^◌, ℕ, List, [], ◌++◌, length, slice_index, IfOk, IfErr, OnOk};
+ghost use Rattle.ygm_route.specs.declared.scheme.Scheme.TheVariants.{Direct};
+ghost use Rattle.comm_rank.specs.Fault.{IfCountFull, IsFullAt};
+ghost use Rattle.ygm_run.specs.Carried.{AreFresh, AreReady, Carried, HasSettled, IsQuiet, kept, sent_counts, with_line};
 ghost use Rattle.ygm_run.specs.Tally.{AreCounts, all_lines, pairs_of, tally_text};
 
 use crate::tally_text::table_of;
-use comm_rank::{Comm, CommFault, Lists, settle};
+use comm_rank::{Comm, CommFault, settle};
 use counting_set::{Counting, count_insert};
 use std::alloc::{AllocError, Global};
+use world_core::{Limits, PlainLinks};
+use ygm_route::{Layout, Scheme};
 
 /// How many letters a rank sends before what waits is run, so that few are on their way.
 const SETTLE_EVERY: u64 = 4096;
+
+/// How many batches a link holds: as many as are on their way, so that none is full.
+const RING: u32 = 4096;
 
 /// All ranks of a world, and the links between them.
 #[derive(Drop)]
@@ -19,19 +24,19 @@ pub(crate) struct World {
     alloc: Global,
     ranks: u32,
     comms: Vec<Comm<Counting>>,
-    lists: Lists,
-    ghost one_each: { IsWorld comms.items ranks },
-    ghost same_ranks: { lists.ranks ≡ ranks },
+    links: PlainLinks,
+    ghost one_each: { length comms.items ≡ ranks },
 }
 
 // A rank for each number, with nothing counted.
-fn fresh_ranks(alloc: Global, ranks: u32) -> Result<Vec<Comm<Counting>>, AllocError>
-    ensures world { IfOk result (λ comms. IsWorld comms.items ranks) }
-    ensures fresh { IfOk result (λ comms. AreFresh (states_of comms.items)) }
+fn fresh_ranks(alloc: Global, layout: Layout) -> Result<Vec<Comm<Counting>>, AllocError>
+    ensures all { IfOk result (λ comms. length comms.items ≡ layout.ranks) }
+    ensures fresh { IfOk result (λ comms. AreFresh layout comms.items) }
 {
     let mut comms = Vec::new(alloc);
-    for here in 0..ranks {
-        let Ok(comm) = Comm::new(alloc, ranks, here, Counting::new(alloc)?) else {
+    for here in 0..layout.ranks() {
+        let shard = Counting::new(alloc)?;
+        let Ok(comm) = Comm::new(alloc, layout, Scheme::Direct, here, Limits::FULL, shard) else {
             return Err(AllocError);
         };
         comms.push(comm)?;
@@ -40,18 +45,17 @@ fn fresh_ranks(alloc: Global, ranks: u32) -> Result<Vec<Comm<Counting>>, AllocEr
 }
 
 impl World {
-    /// Ranks that have counted nothing, and empty links.
-    pub(crate) fn new(alloc: Global, ranks: u32) -> Result<World, AllocError>
-        ensures ranks { IfOk result (λ world. world.ranks ≡ ranks) }
-        ensures carried { IfOk result (λ world. Carried (λ _. []) ranks (states_of world.comms.items) world.lists) }
+    /// Ranks that have counted nothing, and empty links, in the layout of so many ranks on nodes of one core.
+    pub(crate) fn new(alloc: Global, layout: Layout) -> Result<World, AllocError>
+        ensures ranks { IfOk result (λ world. world.ranks ≡ layout.ranks) }
+        ensures ready { IfOk result (λ world. AreReady world.comms.items world.links) }
+        ensures carried { IfOk result (λ world. Carried (λ _. []) layout.ranks world.comms.items world.links) }
     {
-        let comms = fresh_ranks(alloc, ranks)?;
-        let lists = Lists::new(alloc, ranks)?;
         Ok(World {
             alloc,
-            ranks,
-            comms,
-            lists,
+            ranks: layout.ranks(),
+            comms: fresh_ranks(alloc, layout)?,
+            links: PlainLinks::new(alloc, layout, Scheme::Direct, RING, Limits::FULL)?,
         })
     }
 
@@ -66,41 +70,40 @@ impl World {
     fn insert(&mut self, rank: u32, line: &[u8]) -> Result<(), CommFault>
         requires below { rank < self.old.ranks }
         requires short { length line.now ≤ 1000000 }
-        ensures carried { OnOk result ((own : ℕ → List (List ℕ)) → Carried own self.old.ranks (states_of self.old.comms.items) self.old.lists
-            → Carried (with_line own rank line.now) self.old.ranks (states_of self.new.comms.items) self.new.lists) }
-        ensures counted { OnOk result (slice_index (map sent_count_of self.new.comms.items) rank ≡ slice_index (map sent_count_of self.old.comms.items) rank + 1) }
-        ensures bound { OnOk result (slice_index (map sent_count_of self.new.comms.items) rank ≤ 2 ^ 56) }
-        ensures cause { IfErr result (IsFullAt (slice_index (map sent_count_of self.old.comms.items) rank) (2 ^ 56)) }
+        requires ready { AreReady self.old.comms.items self.old.links }
+        ensures ready { OnOk result (AreReady self.new.comms.items self.new.links) }
+        ensures carried { OnOk result ((own : ℕ → List (List ℕ)) → Carried own self.old.ranks self.old.comms.items self.old.links
+            → Carried (with_line own rank line.now) self.old.ranks self.new.comms.items self.new.links) }
+        ensures counted { OnOk result (slice_index (sent_counts self.new.comms.items) rank ≡ slice_index (sent_counts self.old.comms.items) rank + 1) }
+        ensures bound { OnOk result (slice_index (sent_counts self.new.comms.items) rank ≤ 2 ^ 56) }
+        ensures cause { IfErr result (IsFullAt (slice_index (sent_counts self.old.comms.items) rank) (2 ^ 56)) }
         ensures ranks { self.new.ranks ≡ self.old.ranks }
     {
-        let comm = &mut self.comms[rank as usize];
-        count_insert(self.alloc, comm, &mut self.lists, line)
+        count_insert(self.alloc, &mut self.comms[rank as usize], line)
     }
 
-    // The weak barrier of one rank.
+    // The weak barrier of one rank. A rank that failed had ended the run, so that none has raised the stop.
     fn settle(&mut self, caller: u32) -> Result<(), CommFault>
-        requires { caller < self.old.ranks }
-        ensures carried { OnOk result ((own : ℕ → List (List ℕ)) → Carried own self.old.ranks (states_of self.old.comms.items) self.old.lists
-            → Carried own self.old.ranks (states_of self.new.comms.items) self.new.lists) }
-        ensures quiet { OnOk result (IsQuietFrom self.new.lists caller) }
-        ensures stays { OnOk result ((from : ℕ) → from < self.old.ranks → IsQuietFrom self.old.lists from → IsQuietFrom self.new.lists from) }
-        ensures counted { OnOk result (map sent_count_of self.new.comms.items ≡ map sent_count_of self.old.comms.items) }
-        ensures cause { IfErr result (λ fault. fault ≡ CommFault.NoMemory) }
+        requires below { caller < self.old.ranks }
+        requires ready { AreReady self.old.comms.items self.old.links }
+        ensures settled { OnOk result (HasSettled caller self.old.comms.items self.new.comms.items self.old.links self.new.links) }
+        ensures never_full { IfErr result (λ fault. IfCountFull fault (λ _. ⊥)) }
         ensures ranks { self.new.ranks ≡ self.old.ranks }
     {
-        settle(self.alloc, &mut self.comms, &mut self.lists, caller)
+        settle(&mut self.comms, &mut self.links, caller)
     }
 
-    /// Sends a line of a rank to the rank that owns it. Every few thousand lines what waits is run, so that
-    /// memory follows the distinct lines.
+    /// Sends a line of a rank to the rank that owns it. Every few thousand lines what waits is run.
     pub(crate) fn add_line(&mut self, rank: u32, line: &[u8]) -> Result<(), CommFault>
         requires below { rank < self.old.ranks }
         requires short { length line.now ≤ 1000000 }
-        ensures carried { OnOk result ((own : ℕ → List (List ℕ)) → Carried own self.old.ranks (states_of self.old.comms.items) self.old.lists
-            → Carried (with_line own rank line.now) self.old.ranks (states_of self.new.comms.items) self.new.lists) }
-        ensures counted { OnOk result (slice_index (map sent_count_of self.new.comms.items) rank ≡ slice_index (map sent_count_of self.old.comms.items) rank + 1) }
-        ensures bound { OnOk result (slice_index (map sent_count_of self.new.comms.items) rank ≤ 2 ^ 56) }
-        ensures cause { IfErr result (IsFullAt (slice_index (map sent_count_of self.old.comms.items) rank) (2 ^ 56)) }
+        requires ready { AreReady self.old.comms.items self.old.links }
+        ensures ready { OnOk result (AreReady self.new.comms.items self.new.links) }
+        ensures carried { OnOk result ((own : ℕ → List (List ℕ)) → Carried own self.old.ranks self.old.comms.items self.old.links
+            → Carried (with_line own rank line.now) self.old.ranks self.new.comms.items self.new.links) }
+        ensures counted { OnOk result (slice_index (sent_counts self.new.comms.items) rank ≡ slice_index (sent_counts self.old.comms.items) rank + 1) }
+        ensures bound { OnOk result (slice_index (sent_counts self.new.comms.items) rank ≤ 2 ^ 56) }
+        ensures cause { IfErr result (IsFullAt (slice_index (sent_counts self.old.comms.items) rank) (2 ^ 56)) }
         ensures ranks { self.new.ranks ≡ self.old.ranks }
     {
         self.insert(rank, line)?;
@@ -110,12 +113,14 @@ impl World {
         Ok(())
     }
 
-    /// Runs until no letter waits. Counting sends no letters, so that want of memory alone refuses it.
+    /// Runs all that was sent. Counting sends no letters, so that no count is full then.
     pub(crate) fn drain(&mut self) -> Result<(), CommFault>
-        ensures carried { OnOk result ((own : ℕ → List (List ℕ)) → Carried own self.old.ranks (states_of self.old.comms.items) self.old.lists
-            → Carried own self.old.ranks (states_of self.new.comms.items) self.new.lists) }
-        ensures quiet { OnOk result (IsQuiet self.new.lists) }
-        ensures cause { IfErr result (λ fault. fault ≡ CommFault.NoMemory) }
+        requires ready { AreReady self.old.comms.items self.old.links }
+        ensures ready { OnOk result (AreReady self.new.comms.items self.new.links) }
+        ensures carried { OnOk result ((own : ℕ → List (List ℕ)) → Carried own self.old.ranks self.old.comms.items self.old.links
+            → Carried own self.old.ranks self.new.comms.items self.new.links) }
+        ensures quiet { OnOk result (IsQuiet self.new.comms.items self.new.links) }
+        ensures never_full { IfErr result (λ fault. IfCountFull fault (λ _. ⊥)) }
         ensures ranks { self.new.ranks ≡ self.old.ranks }
     {
         for caller in 0..self.ranks {
@@ -127,7 +132,7 @@ impl World {
     /// The text of what the ranks keep.
     pub(crate) fn text(&self) -> Result<Vec<u8>, AllocError>
         ensures { IfOk result (λ text. (files : List (List (List ℕ))) →
-            AreCounts (kept (states_of self.now.comms.items)) (all_lines files) → text.items ≡ tally_text files) }
+            AreCounts (kept self.now.comms.items) (all_lines files) → text.items ≡ tally_text files) }
     {
         let mut entries = Vec::new(self.alloc);
         for comm in &self.comms {

@@ -1,99 +1,98 @@
-use Rattle.std.proofs.Common.{◌≡◌, ◌<◌, ◌*◌, ◌≤◌, List, Some, ap, sym, ◌∙◌, subst, arith, get_or, set, length, map, slice_get, ℕ, ◌+◌, ◌^◌}
-use Rattle.std.specs.Option.{option_map}
-use Rattle.std.proofs.lemmas.List.{length-map}
-use Rattle.std.proofs.lemmas.Result.{err_from_is_err_and}
-use Rattle.std.proofs.lemmas.Option.{slice_get-map, slice_get-get_or}
-use Rattle.comm_rank.specs.Rank.{rank_of, state_of, states_of, IsWorld}
-use Rattle.comm_rank.specs.Links.{place, waiting}
-use Rattle.comm_rank.specs.Runs.{StoppedAt}
-use Rattle.comm_rank.proofs.Settling.{on_err}
-use Rattle.comm_rank.proofs.Worlds.{SettledTo, SettledTo-none, settle_more, settle_stopped, settled, stopped_before, due_for, full_somewhere, slice_get-set_at, world_with, map-set}
+use Rattle.std.proofs.Common.{◌≡◌, ◌<◌, ◌+◌, ◌∙◌, ℕ, get_or, refl, sym, subst, arith, rules}
+use Rattle.std.proofs.lemmas.Result.{IfErr-weaker}
+use Rattle.comm_rank.specs.Settled.{IsNear, RoundMoves}
+use Rattle.comm_rank.proofs.Advancing.{failed_later, has_advanced_more, has_advanced_none, same_links_more, same_links_none, same_ranks_more, same_ranks_none}
+use Rattle.comm_rank.proofs.Rounds.{near_at_first, round_more, rounds_enough, still_round}
+use Rattle.comm_rank.proofs.Settling.{few_to_one, has_run}
+use Rattle.comm_rank.proofs.PlainTurns.{there}
 use Rattle.comm_rank.proofs.barrier.settle.Goals as goal
 
-pub returns-in_err-due-clause-stopped : goal.returns-in_err-due-clause-stopped
-returns-in_err-due-clause-stopped g c = on_err c.from_residual.result _ (stopped_before g.H.Handler.apply (states_of c.args.comms.now) c.args.lists.now)
-
-pub loop-comm-init : goal.loop-comm-init
-loop-comm-init g c = record {
-  ran = SettledTo-none g.H.Handler.apply (states_of c.args.comms.now) c.args.lists.now;
-  world = c.requires.world;
+pub loop-init : goal.loop-init
+loop-init g c = record {
+  near = near_at_first c.args.comms.now c.args.links.now c.args.caller;
+  advanced = has_advanced_none g.H.Handler.apply c.args.comms.now c.args.links.now;
+  ranks = c.requires.ranks;
+  halts = refl;
+  same_ranks = same_ranks_none c.args.comms.now;
+  all = refl;
+  same_links = same_links_none c.args.links.now;
 }
 
-pub run_due-requires-clause-world : goal.run_due-requires-clause-world
-run_due-requires-clause-world g c =
-    let k = c.loop-comm.comm-index in
-    let lt : k < length c.loop-comm.comms = omega (arith, c.loop-comm-test.true, c.loop-comm.auto.comms) in
-    let at = slice_get-get_or c.loop-comm.comms k c.comm-item.result lt in
-    c.loop-comm.invariant.ran.runs.ranks ∙ sym (c.loop-comm.invariant.world.each k _ at).1
+pub returns-in_err-round-clause-failed : goal.returns-in_err-round-clause-failed
+returns-in_err-round-clause-failed g c =
+    let inv = c.loop.invariant in
+    IfErr-weaker c.from_residual.result _ _
+    (failed_later g.H.Handler.apply c.args.comms.now c.loop.comms c.round.new.comms c.args.links.now c.loop.links c.round.new.links inv.same_ranks inv.all inv.advanced) (search rules)
 
-pub run_due-requires-clause-square : goal.run_due-requires-clause-square
-run_due-requires-clause-square g c =
-    ap length (c.deref.ensures.value ∙ c.in_ok-due.ensures.lengths) ∙ length-map c.args.lists.now.lists length ∙ c.lengths.ensures.square
-    ∙ ap (λ n. n * n) (sym c.loop-comm.invariant.ran.runs.ranks)
+pub returns-in_err-round-clause-same_ranks : goal.returns-in_err-round-clause-same_ranks
+returns-in_err-round-clause-same_ranks g c =
+    let inv = c.loop.invariant in
+    same_ranks_more g.H.Handler.apply c.args.comms.now c.loop.comms c.round.new.comms c.args.links.now c.loop.links c.round.new.links inv.same_ranks inv.all c.round.ensures.same_ranks
 
-pub run_due-requires-clause-some : goal.run_due-requires-clause-some
-run_due-requires-clause-some g c = λ from f.
-    let k = c.loop-comm.comm-index in
-    let lt : k < length c.loop-comm.comms = omega (arith, c.loop-comm-test.true, c.loop-comm.auto.comms) in
-    let at = slice_get-get_or c.loop-comm.comms k c.comm-item.result lt in
-    let same = (c.loop-comm.invariant.world.each k _ at).0 in
-    let all : length (states_of c.args.comms.now) ≡ c.args.lists.now.ranks = length-map c.args.comms.now state_of ∙ c.requires.world.all in
-    let f' : from < c.args.lists.now.ranks = omega (arith, f, c.loop-comm.invariant.ran.runs.ranks) in
-    let k' : k < c.args.lists.now.ranks = omega (arith, c.loop-comm-test.true, c.requires.world.all) in
-    let enough = due_for g.H.Handler.apply _ _ c.args.lists.now c.loop-comm.lists k from c.loop-comm.invariant.ran all k' f' in
-    let P : List ℕ → ℕ → Type 0 = λ d r. get_or d (place c.loop-comm.lists.ranks from r) 0 ≤ length (waiting c.loop-comm.lists from r) in
-    subst (λ d. P d (rank_of (get_or c.loop-comm.comms k c.comm-item.result))) (sym (c.deref.ensures.value ∙ c.in_ok-due.ensures.lengths))
-    (subst (λ r. P (map length c.args.lists.now.lists) r) (sym same) enough)
+pub returns-then-not-branch-clause-same_ranks : goal.returns-then-not-branch-clause-same_ranks
+returns-then-not-branch-clause-same_ranks g c =
+    let inv = c.loop.invariant in
+    same_ranks_more g.H.Handler.apply c.args.comms.now c.loop.comms c.round.new.comms c.args.links.now c.loop.links c.round.new.links inv.same_ranks inv.all c.round.ensures.same_ranks
 
-pub returns-in_err-run_due-clause-stopped : goal.returns-in_err-run_due-clause-stopped
-returns-in_err-run_due-clause-stopped g c =
-    let k = c.loop-comm.comm-index in
-    let x = get_or c.loop-comm.comms k c.comm-item.result in
-    let lt : k < length c.loop-comm.comms = omega (arith, c.loop-comm-test.true, c.loop-comm.auto.comms) in
-    let at = slice_get-get_or c.loop-comm.comms k c.comm-item.result lt in
-    let same = (c.loop-comm.invariant.world.each k _ at).0 in
-    let state_at : slice_get (states_of c.loop-comm.comms) k ≡ Some (state_of x) = slice_get-map state_of c.loop-comm.comms k ∙ ap (option_map state_of) at in
-    on_err c.from_residual-in_err-run_due.result _
-    (subst (λ after. StoppedAt g.H.Handler.apply (states_of c.args.comms.now) after c.args.lists.now c.run_due.new.lists) (sym (map-set state_of c.loop-comm.comms k c.run_due.new.comm))
-    (settle_stopped g.H.Handler.apply (states_of c.args.comms.now) (states_of c.loop-comm.comms) (state_of x) (state_of c.run_due.new.comm) c.args.lists.now c.loop-comm.lists c.run_due.new.lists k (rank_of x) same c.loop-comm.invariant.ran state_at c.in_err-run_due.ensures.stopped))
+pub returns-then-not-branch-clause-advanced : goal.returns-then-not-branch-clause-advanced
+returns-then-not-branch-clause-advanced g c =
+    let inv = c.loop.invariant in
+    λ other. has_advanced_more g.H.Handler.apply c.args.comms.now c.loop.comms c.round.new.comms c.args.links.now c.loop.links c.round.new.links inv.same_ranks inv.all other (inv.advanced other) (c.in_ok-round.ensures.advanced other)
 
-pub returns-in_err-run_due-clause-cause : goal.returns-in_err-run_due-clause-cause
-returns-in_err-run_due-clause-cause g c =
-    let k = c.loop-comm.comm-index in
-    let lt : k < length c.loop-comm.comms = omega (arith, c.loop-comm-test.true, c.loop-comm.auto.comms) in
-    let at : slice_get (states_of (set c.loop-comm.comms k c.run_due.new.comm)) k ≡ Some (state_of c.run_due.new.comm) =
-    slice_get-map state_of (set c.loop-comm.comms k c.run_due.new.comm) k ∙ ap (option_map state_of) (slice_get-set_at c.loop-comm.comms k c.run_due.new.comm lt) in
-    let p = err_from_is_err_and c.from_residual-in_err-run_due.result c.from_residual-in_err-run_due.ensures.1 in
-    rw (p.1, p.2)
-    (full_somewhere (states_of (set c.loop-comm.comms k c.run_due.new.comm)) k (2 ^ 56) (state_of c.run_due.new.comm) _ at c.in_err-run_due.ensures.cause)
+pub returns-then-not-branch-clause-has_run : goal.returns-then-not-branch-clause-has_run
+returns-then-not-branch-clause-has_run g c =
+    let inv = c.loop.invariant in
+    let e = c.in_ok-round.ensures in
+    let apply = g.H.Handler.apply in
+    let a = c.args.comms.now in
+    let b = c.loop.comms in
+    let d = c.round.new.comms in
+    let x = c.args.links.now in
+    let y = c.loop.links in
+    let z = c.round.new.links in
+    let P : ℕ → Type 0 = λ n. RoundMoves n b d y z c.in_ok-round.field-0 in
+    let moves = subst P (sym e.all ∙ e.ranks.all) e.moves in
+    let within : c.args.caller < z.world.layout.ranks = omega (arith, c.requires.caller, inv.all, e.all, e.ranks.all) in
+    has_run apply g.H.Handler.start a d x z c.args.caller c.requires.ranks e.ranks (e.all ∙ inv.all) c.is_sound.ensures
+    (has_advanced_more apply a b d x y z inv.same_ranks inv.all c.args.caller (inv.advanced c.args.caller) (e.advanced c.args.caller))
+    (still_round a b d x y z c.args.caller c.loop.counter c.in_ok-round.field-0 e.same_links.layout within inv.near moves c.if-not-branch.true)
 
-pub returns-in_err-run_due-clause-world : goal.returns-in_err-run_due-clause-world
-returns-in_err-run_due-clause-world g c =
-    let k = c.loop-comm.comm-index in
-    let lt : k < length c.loop-comm.comms = omega (arith, c.loop-comm-test.true, c.loop-comm.auto.comms) in
-    let at = slice_get-get_or c.loop-comm.comms k c.comm-item.result lt in
-    let st = settle_stopped g.H.Handler.apply (states_of c.args.comms.now) (states_of c.loop-comm.comms) _ (state_of c.run_due.new.comm) c.args.lists.now c.loop-comm.lists c.run_due.new.lists k _ (c.loop-comm.invariant.world.each k _ at).0 c.loop-comm.invariant.ran (slice_get-map state_of c.loop-comm.comms k ∙ ap (option_map state_of) at) c.in_err-run_due.ensures.stopped in
-    subst (λ n. IsWorld (set c.loop-comm.comms k c.run_due.new.comm) n) (sym (st.sent.ranks ∙ st.runs.ranks))
-    (world_with c.loop-comm.comms c.args.lists.now.ranks k _ c.run_due.new.comm c.loop-comm.invariant.world at c.run_due.ensures.same_rank)
-
-pub loop-comm-preserved : goal.loop-comm-preserved
-loop-comm-preserved g c =
-    let k = c.loop-comm.comm-index in
-    let x = get_or c.loop-comm.comms k c.comm-item.result in
-    let lt : k < length c.loop-comm.comms = omega (arith, c.loop-comm-test.true, c.loop-comm.auto.comms) in
-    let at = slice_get-get_or c.loop-comm.comms k c.comm-item.result lt in
-    let same = (c.loop-comm.invariant.world.each k _ at).0 in
-    let all : length (states_of c.args.comms.now) ≡ c.args.lists.now.ranks = length-map c.args.comms.now state_of ∙ c.requires.world.all in
-    let k' : k < c.args.lists.now.ranks = omega (arith, c.loop-comm-test.true, c.requires.world.all) in
-    let state_at : slice_get (states_of c.loop-comm.comms) k ≡ Some (state_of x) = slice_get-map state_of c.loop-comm.comms k ∙ ap (option_map state_of) at in
+pub loop-preserved : goal.loop-preserved
+loop-preserved g c =
+    let inv = c.loop.invariant in
+    let e = c.in_ok-round.ensures in
+    let apply = g.H.Handler.apply in
+    let a = c.args.comms.now in
+    let b = c.loop.comms in
+    let d = c.round.new.comms in
+    let x = c.args.links.now in
+    let y = c.loop.links in
+    let z = c.round.new.links in
+    let P : ℕ → Type 0 = λ n. RoundMoves n b d y z c.in_ok-round.field-0 in
+    let moves = subst P (sym e.all ∙ e.ranks.all) e.moves in
+    let within : c.args.caller < z.world.layout.ranks = omega (arith, c.requires.caller, inv.all, e.all, e.ranks.all) in
     record {
-      ran = subst (λ after. SettledTo g.H.Handler.apply (states_of c.args.comms.now) after c.args.lists.now c.run_due.new.lists (k + 1)) (sym (map-set state_of c.loop-comm.comms k c.run_due.new.comm))
-          (settle_more g.H.Handler.apply (states_of c.args.comms.now) (states_of c.loop-comm.comms) (state_of x) (state_of c.run_due.new.comm) c.args.lists.now c.loop-comm.lists c.run_due.new.lists k (rank_of x) c.deref.result.now same
-          (c.deref.ensures.value ∙ c.in_ok-due.ensures.lengths) c.loop-comm.invariant.ran all k' state_at c.in_ok-run_due.ensures.ran);
-      world = world_with c.loop-comm.comms c.args.lists.now.ranks k _ c.run_due.new.comm c.loop-comm.invariant.world at c.run_due.ensures.same_rank;
+      near = round_more a b d x y z c.args.caller c.loop.counter c.in_ok-round.field-0 e.same_links.layout within inv.near moves;
+      advanced = λ other. has_advanced_more apply a b d x y z inv.same_ranks inv.all other (inv.advanced other) (e.advanced other);
+      ranks = e.ranks;
+      halts = e.halts_stand ∙ inv.halts;
+      same_ranks = same_ranks_more apply a b d x y z inv.same_ranks inv.all e.same_ranks;
+      all = e.all ∙ inv.all;
+      same_links = same_links_more x y z inv.same_links e.same_links;
     }
 
-pub returns-clause-settled : goal.returns-clause-settled
-returns-clause-settled g c =
-    let all : c.args.lists.now.ranks ≤ c.loop-comm.comm-index = omega (arith, c.loop-comm-test.false, c.requires.world.all) in
-    settled g.H.Handler.apply c.args.caller c.loop-comm.comm-index _ _ c.args.lists.now c.loop-comm.lists c.loop-comm.invariant.ran all c.requires.caller
+pub returns-clause-has_run : goal.returns-clause-has_run
+returns-clause-has_run g c =
+    let inv = c.loop.invariant in
+    let apply = g.H.Handler.apply in
+    let start = g.H.Handler.start in
+    let a = c.args.comms.now in
+    let x = c.args.links.now in
+    let caller = c.args.caller in
+    let most = c.sent_count-most.result in
+    let read = c.index-comms-caller.result in
+    let few = few_to_one apply start a x caller (get_or a caller read) (there apply start a x caller c.requires.ranks c.requires.caller read) c.requires.ranks in
+    let rounds : c.loop.counter ≡ most + 1 = omega (arith, c.loop-test.false, c.loop.auto.counter-end) in
+    let P : ℕ → Type 0 = λ n. IsNear n a c.loop.comms x c.loop.links caller in
+    has_run apply start a c.loop.comms x c.loop.links caller c.requires.ranks inv.ranks inv.all c.is_sound-2.ensures (inv.advanced caller)
+    (rounds_enough a c.loop.comms x c.loop.links caller most (λ to. omega (arith, few to, c.sent_count-most.ensures.value)) (subst P rounds inv.near))

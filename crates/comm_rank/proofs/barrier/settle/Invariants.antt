@@ -1,10 +1,15 @@
-use Rattle.comm_rank.specs.Rank.{states_of, IsWorld}
-use Rattle.comm_rank.proofs.Worlds.{SettledTo}
+use Rattle.std.proofs.Common.{◌≡◌, ℕ, length}
+use Rattle.comm_rank.specs.Settled.{AreRanks, AreSameLinks, AreSameRanks, HasAdvanced, IsNear}
 use Rattle.comm_rank.proofs.barrier.settle.Given as goal
 
--- what was due ran at the first ranks
-abbrev pub invariant-loop-comm : goal.invariant-loop-comm
-invariant-loop-comm g l = record {
-  ran : SettledTo g.H.Handler.apply (states_of l.fn.comms) (states_of l.comms) l.fn.lists l.lists l.comm-index;
-  world : IsWorld l.comms l.fn.lists.ranks;
+-- so many whole rounds
+abbrev pub invariant-loop : goal.invariant-loop
+invariant-loop g l = record {
+  near : IsNear l.counter l.fn.comms l.comms l.fn.links l.links l.caller;
+  advanced : (other : ℕ) → HasAdvanced g.H.Handler.apply l.fn.comms l.comms l.fn.links l.links other;
+  ranks : AreRanks g.H.Handler.apply g.H.Handler.start l.comms l.links;
+  halts : l.links.halts ≡ l.fn.links.halts;
+  same_ranks : AreSameRanks l.fn.comms l.comms;
+  all : length l.comms ≡ length l.fn.comms;
+  same_links : AreSameLinks l.fn.links l.links;
 }

@@ -1,7 +1,6 @@
 use Rattle.std.proofs.Common.{◌≡◌, ◌<◌, ◌^◌, ◌∙◌, [], false, length, refl, ap, sym, subst, arith}
 use Rattle.std.proofs.lemmas.Bool.{false≢true}
 use Rattle.std.proofs.lemmas.Result.{err_from_is_err_and}
-use Rattle.comm_rank.specs.Rank.{states_of}
 use Rattle.ygm_run.specs.Fed.{EndedWith, Fed}
 use Rattle.ygm_run.specs.Inputs.{IsFull, good_lines}
 use Rattle.ygm_run.specs.Lines.{raw_lines}
@@ -15,6 +14,7 @@ loop-fault-init g c =
     let fresh = c.in_ok-reader.ensures in
     let left = g.S.Source.left c.args.source.now in
     record {
+      ready = c.requires.ready;
       fed = fed_nothing c.args.world.now.ranks c.args.rank _ _ (record { held = []; given = 0; done = false }) c.in_ok-reader.reader left left (ap (λ (r : Reading). to_come r.held left) fresh) (ap (λ (r : Reading). r.given) fresh);
       ranks = refl;
       sent = omega (arith, c.requires.unsent, ap (λ (r : Reading). r.given) fresh);
@@ -48,8 +48,9 @@ loop-fault-preserved g c =
     let before = c.loop-fault.invariant in
     let now = c.in_ok-fault.ensures in
     let unfinished : c.loop-fault.reader.done ≡ false = sym c.done.ensures ∙ c.loop-fault-test.true in
-    let step = subst (λ n. Fed n c.args.rank (states_of c.loop-fault.world.comms.items) (states_of c.take_turn.new.world.comms.items) c.loop-fault.world.lists c.take_turn.new.world.lists c.loop-fault.reader c.take_turn.new.reader (g.S.Source.left c.loop-fault.source) (g.S.Source.left c.take_turn.new.source)) before.ranks now.fed in
+    let step = subst (λ n. Fed n c.args.rank c.loop-fault.world.comms.items c.take_turn.new.world.comms.items c.loop-fault.world.links c.take_turn.new.world.links c.loop-fault.reader c.take_turn.new.reader (g.S.Source.left c.loop-fault.source) (g.S.Source.left c.take_turn.new.source)) before.ranks now.fed in
     record {
+      ready = now.ready;
       fed = fed_more _ _ _ _ _ _ _ _ _ _ _ _ _ _ before.fed step;
       ranks = now.ranks ∙ before.ranks;
       sent = omega (arith, now.sent, before.sent);

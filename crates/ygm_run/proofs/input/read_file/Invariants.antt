@@ -1,5 +1,5 @@
-use Rattle.std.proofs.Common.{◌≡◌, ◌≤◌, ◌^◌, ◌+◌, [], true, false, cond, map, get_or}
-use Rattle.comm_rank.specs.Rank.{states_of, sent_count_of}
+use Rattle.std.proofs.Common.{◌≡◌, ◌≤◌, ◌^◌, ◌+◌, [], true, false, cond, get_or}
+use Rattle.ygm_run.specs.Carried.{AreReady, sent_counts}
 use Rattle.ygm_run.specs.Fed.{EndedWith, Fed, turns_left}
 use Rattle.ygm_run.specs.Inputs.{IsRest}
 use Rattle.ygm_run.proofs.input.read_file.Given as goal
@@ -7,9 +7,10 @@ use Rattle.ygm_run.proofs.input.read_file.Given as goal
 -- lines were given to the world, as many as the rank has sent; where the reader is done, all of them before the fault
 abbrev pub invariant-loop-fault : goal.invariant-loop-fault
 invariant-loop-fault g l = record {
-  fed : Fed l.fn.world.ranks l.rank (states_of l.fn.world.comms.items) (states_of l.world.comms.items) l.fn.world.lists l.world.lists (record { held = []; given = 0; done = false }) l.reader (g.S.Source.left l.fn.source) (g.S.Source.left l.source);
+  ready : AreReady l.world.comms.items l.world.links;
+  fed : Fed l.fn.world.ranks l.rank l.fn.world.comms.items l.world.comms.items l.fn.world.links l.world.links (record { held = []; given = 0; done = false }) l.reader (g.S.Source.left l.fn.source) (g.S.Source.left l.source);
   ranks : l.world.ranks ≡ l.fn.world.ranks;
-  sent : get_or (map sent_count_of l.world.comms.items) l.rank 0 ≡ l.reader.given;
+  sent : get_or (sent_counts l.world.comms.items) l.rank 0 ≡ l.reader.given;
   bound : l.reader.given ≤ 2 ^ 56;
   going_on : l.reader.done ≡ false → g.S.Source.faults l.source ≡ 0;
   ended : l.reader.done ≡ true → EndedWith l.fault l.reader (g.S.Source.left l.source) 0 (g.S.Source.faults l.source);
@@ -17,4 +18,4 @@ invariant-loop-fault g l = record {
 }
 
 abbrev pub decreases-loop-fault : goal.decreases-loop-fault
-decreases-loop-fault g l = cond l.reader.done 0 (1 + turns_left (get_or (map sent_count_of l.world.comms.items) l.rank 0) l.reader.held)
+decreases-loop-fault g l = cond l.reader.done 0 (1 + turns_left (get_or (sent_counts l.world.comms.items) l.rank 0) l.reader.held)

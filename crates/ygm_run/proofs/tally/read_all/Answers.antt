@@ -1,7 +1,6 @@
 use Rattle.std.proofs.Common.{◌<◌, ◌∙◌, length, get_or, refl, ap, sym, subst, arith}
 use Rattle.std.specs.Option.{option_or}
 use Rattle.std.proofs.lemmas.Option.{slice_get-get_or}
-use Rattle.comm_rank.specs.Rank.{states_of}
 use Rattle.ygm_run.specs.Fed.{IsSent}
 use Rattle.ygm_run.proofs.Endings.{stops_full}
 use Rattle.ygm_run.proofs.Joining.{ReadSoFar, read_none, read_more, rests_more, unsent_so_far, all_read, all_sent, lowest_told, full_at}
@@ -9,6 +8,7 @@ use Rattle.ygm_run.proofs.tally.read_all.Goals as goal
 
 pub loop-rank-init : goal.loop-rank-init
 loop-rank-init g c = record {
+  ready = c.requires.ready;
   so = read_none g.S.Source.left g.S.Source.faults c.args.world.now.ranks c.args.sources.now _ _ c.requires.nothing_sent;
   ranks = refl;
 }
@@ -43,8 +43,9 @@ loop-rank-preserved g c =
     let before = c.loop-rank.invariant in
     let lt : k < length c.loop-rank.sources = omega (arith, c.loop-rank-test.true, c.loop-rank.auto.sources, c.ranks-rank-end.ensures, c.requires.all) in
     let at = sym (before.so.untouched k (omega arith)) ∙ slice_get-get_or c.loop-rank.sources k c.index-sources-rank.result lt in
-    let sent = subst (λ n. IsSent n k (states_of c.loop-rank.world.comms.items) (states_of c.read_file.new.world.comms.items) c.loop-rank.world.lists c.read_file.new.world.lists (g.S.Source.left (get_or c.loop-rank.sources k c.index-sources-rank.result)) c.in-Ok.fault) before.ranks c.in-Ok.ensures.sent in
+    let sent = subst (λ n. IsSent n k c.loop-rank.world.comms.items c.read_file.new.world.comms.items c.loop-rank.world.links c.read_file.new.world.links (g.S.Source.left (get_or c.loop-rank.sources k c.index-sources-rank.result)) c.in-Ok.fault) before.ranks c.in-Ok.ensures.sent in
     record {
+      ready = c.in-Ok.ensures.ready;
       so = read_more g.S.Source.left g.S.Source.faults _ c.args.sources.now c.loop-rank.sources k _ _ _ _ c.loop-rank.lowest c.or-lowest.result _ c.read_file.new.source c.in-Ok.fault before.so at sent c.in-Ok.ensures.read c.read_file.ensures.rest
           (λ e. c.or-lowest.ensures ∙ ap (λ o. option_or o c.with_rank.result) e ∙ c.with_rank.ensures) (λ found e. c.or-lowest.ensures ∙ ap (λ o. option_or o c.with_rank.result) e ∙ sym e);
       ranks = c.read_file.ensures.ranks ∙ before.ranks;
@@ -52,18 +53,18 @@ loop-rank-preserved g c =
 
 pub returns-in-None-clause-sent : goal.returns-in-None-clause-sent
 returns-in-None-clause-sent g c =
-    let so = subst (ReadSoFar g.S.Source.left g.S.Source.faults c.args.world.now.ranks c.args.sources.now c.loop-rank.sources c.loop-rank.rank (states_of c.loop-rank.world.comms.items) c.loop-rank.world.lists) c.in-None.is c.loop-rank.invariant.so in
+    let so = subst (ReadSoFar g.S.Source.left g.S.Source.faults c.args.world.now.ranks c.args.sources.now c.loop-rank.sources c.loop-rank.rank c.loop-rank.world.comms.items c.loop-rank.world.links) c.in-None.is c.loop-rank.invariant.so in
     all_sent g.S.Source.left g.S.Source.faults c.args.world.now.ranks c.args.sources.now c.loop-rank.sources c.loop-rank.rank _ _ c.requires.all
     (omega (arith, c.loop-rank-test.false, c.ranks-rank-end.ensures)) (omega (arith, c.loop-rank.auto.rank-end, c.ranks-rank-end.ensures)) so
 
 pub returns-in-None-clause-read : goal.returns-in-None-clause-read
 returns-in-None-clause-read g c =
-    let so = subst (ReadSoFar g.S.Source.left g.S.Source.faults c.args.world.now.ranks c.args.sources.now c.loop-rank.sources c.loop-rank.rank (states_of c.loop-rank.world.comms.items) c.loop-rank.world.lists) c.in-None.is c.loop-rank.invariant.so in
+    let so = subst (ReadSoFar g.S.Source.left g.S.Source.faults c.args.world.now.ranks c.args.sources.now c.loop-rank.sources c.loop-rank.rank c.loop-rank.world.comms.items c.loop-rank.world.links) c.in-None.is c.loop-rank.invariant.so in
     all_read g.S.Source.left g.S.Source.faults c.args.world.now.ranks c.args.sources.now c.loop-rank.sources c.loop-rank.rank _ _ (omega (arith, c.loop-rank.auto.sources, c.requires.all))
     (omega (arith, c.loop-rank-test.false, c.ranks-rank-end.ensures)) so
 
 pub returns-in-Some-clause-cause : goal.returns-in-Some-clause-cause
 returns-in-Some-clause-cause g c =
-    let so = subst (ReadSoFar g.S.Source.left g.S.Source.faults c.args.world.now.ranks c.args.sources.now c.loop-rank.sources c.loop-rank.rank (states_of c.loop-rank.world.comms.items) c.loop-rank.world.lists) c.in-Some.is c.loop-rank.invariant.so in
+    let so = subst (ReadSoFar g.S.Source.left g.S.Source.faults c.args.world.now.ranks c.args.sources.now c.loop-rank.sources c.loop-rank.rank c.loop-rank.world.comms.items c.loop-rank.world.links) c.in-Some.is c.loop-rank.invariant.so in
     lowest_told g.S.Source.left g.S.Source.faults c.args.world.now.ranks c.args.sources.now c.loop-rank.sources c.loop-rank.rank _ _ (c.in-Some.rank, c.in-Some.fault) (omega (arith, c.loop-rank.auto.sources, c.requires.all))
     (omega (arith, c.loop-rank-test.false, c.ranks-rank-end.ensures)) (omega (arith, c.loop-rank.auto.rank-end, c.ranks-rank-end.ensures)) so

@@ -1,11 +1,12 @@
 use Rattle.std.proofs.Common.{◌≡◌}
-use Rattle.comm_rank.specs.Rank.{states_of}
+use Rattle.ygm_run.specs.Carried.{AreReady}
 use Rattle.ygm_run.proofs.Joining.{ReadSoFar}
 use Rattle.ygm_run.proofs.tally.read_all.Given as goal
 
 -- the files of the first ranks were read
 abbrev pub invariant-loop-rank : goal.invariant-loop-rank
 invariant-loop-rank g l = record {
-  so : ReadSoFar g.S.Source.left g.S.Source.faults l.fn.world.ranks l.fn.sources l.sources l.rank (states_of l.world.comms.items) l.world.lists l.lowest;
+  ready : AreReady l.world.comms.items l.world.links;
+  so : ReadSoFar g.S.Source.left g.S.Source.faults l.fn.world.ranks l.fn.sources l.sources l.rank l.world.comms.items l.world.links l.lowest;
   ranks : l.world.ranks ≡ l.fn.world.ranks;
 }

@@ -1,20 +1,38 @@
-use Rattle.ygm_run.proofs.Worlds.{inserted, insert_counted, insert_bound}
+use Rattle.ygm_run.proofs.Worlds.{going, insert_bound, insert_cause, insert_counted, inserted, inserted_ready}
 use Rattle.ygm_run.proofs.world.World.insert.Goals as goal
+
+pub count_insert-requires-clause-going : goal.count_insert-requires-clause-going
+count_insert-requires-clause-going c =
+    let world = c.args.self.now in
+    going world.ranks c.args.rank world.comms.items world.links c.index_mut.result.now c.index_mut.result.now world.one_each c.requires.below c.requires.ready c.index_mut.ensures.value
+
+pub returns-clause-ready : goal.returns-clause-ready
+returns-clause-ready c =
+    let world = c.args.self.now in
+    inserted_ready world.ranks c.args.rank world.comms.items world.links c.index_mut.result.now c.count_insert.new.comm world.one_each c.requires.below c.requires.ready c.index_mut.ensures.value
+    c.count_insert.result _ c.count_insert.ensures.held c.count_insert.ensures.agrees
 
 pub returns-clause-carried : goal.returns-clause-carried
 returns-clause-carried c =
     let world = c.args.self.now in
-    inserted c.count_insert.result world.ranks c.args.rank world.comms.items c.index_mut-comm.result.now c.count_insert.new.comm world.lists c.count_insert.new.lists c.args.line.now
-    world.one_each c.requires.below c.requires.short c.index_mut-comm.ensures.value c.count_insert.ensures.sent c.count_insert.ensures.counted c.count_insert.ensures.full c.count_insert.ensures.contents
+    let did = c.count_insert.ensures in
+    inserted world.ranks c.args.rank world.comms.items world.links c.index_mut.result.now c.count_insert.new.comm world.one_each c.requires.below c.requires.ready c.index_mut.ensures.value
+    c.count_insert.result c.args.line.now c.requires.short did.sent did.others did.held did.full
 
 pub returns-clause-counted : goal.returns-clause-counted
 returns-clause-counted c =
     let world = c.args.self.now in
-    insert_counted c.count_insert.result world.ranks c.args.rank world.comms.items c.index_mut-comm.result.now c.count_insert.new.comm
-    world.one_each c.requires.below c.index_mut-comm.ensures.value c.count_insert.ensures.counted
+    insert_counted world.ranks c.args.rank world.comms.items world.links c.index_mut.result.now c.count_insert.new.comm world.one_each c.requires.below c.requires.ready c.index_mut.ensures.value
+    c.count_insert.result _ c.count_insert.ensures.held
 
 pub returns-clause-bound : goal.returns-clause-bound
 returns-clause-bound c =
     let world = c.args.self.now in
-    insert_bound c.count_insert.result world.ranks c.args.rank world.comms.items c.index_mut-comm.result.now c.count_insert.new.comm
-    world.one_each c.requires.below c.count_insert.ensures.counted c.count_insert.ensures.full
+    insert_bound world.ranks c.args.rank world.comms.items world.links c.index_mut.result.now c.count_insert.new.comm world.one_each c.requires.below c.requires.ready c.index_mut.ensures.value
+    c.count_insert.result _ c.count_insert.ensures.held c.count_insert.ensures.full
+
+pub returns-clause-cause : goal.returns-clause-cause
+returns-clause-cause c =
+    let world = c.args.self.now in
+    insert_cause world.ranks c.args.rank world.comms.items world.links c.index_mut.result.now c.count_insert.new.comm world.one_each c.requires.below c.requires.ready c.index_mut.ensures.value
+    c.count_insert.result c.count_insert.ensures.cause

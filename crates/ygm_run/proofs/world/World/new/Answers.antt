@@ -1,10 +1,11 @@
-use Rattle.std.proofs.Common.{◌∙◌}
-use Rattle.std.proofs.lemmas.List.{length-map}
-use Rattle.comm_rank.specs.Rank.{state_of, states_of}
-use Rattle.ygm_run.proofs.Carrying.{carried_none}
+use Rattle.std.proofs.Common.{arith}
+use Rattle.ygm_run.proofs.Carrying.{carried_none, ready_at_first}
 use Rattle.ygm_run.proofs.world.World.new.Goals as goal
+
+pub returns-clause-ready : goal.returns-clause-ready
+returns-clause-ready c =
+    ready_at_first c.args.layout _ _ c.in_ok-fresh_ranks.field-0.items c.in_ok-new.field-0 c.in_ok-fresh_ranks.ensures.all c.in_ok-fresh_ranks.ensures.fresh c.in_ok-new.ensures (omega arith) (omega arith)
 
 pub returns-clause-carried : goal.returns-clause-carried
 returns-clause-carried c =
-    carried_none c.args.ranks (states_of c.in_ok-comms.comms.items) c.in_ok-lists.lists (length-map c.in_ok-comms.comms.items state_of ∙ c.in_ok-comms.ensures.world.all)
-    c.in_ok-lists.ensures.ranks c.in_ok-lists.ensures.empty c.in_ok-comms.ensures.fresh
+    carried_none c.args.layout _ _ c.in_ok-fresh_ranks.field-0.items c.in_ok-new.field-0 c.in_ok-fresh_ranks.ensures.all c.in_ok-fresh_ranks.ensures.fresh c.in_ok-new.ensures

@@ -1,0 +1,157 @@
+-- What a log has once it gained a take, and what ran then.
+use Rattle.std.proofs.Common.{◌≡◌, ◌≢◌, ℕ, suc, ◌-◌, ◌<◌, Bool, true, false, ◌&&◌, not, nat_eq, eqb-true, eq-eqb, List, [], ◌∷◌, ◌++◌, length, take, drop, refl, sym, ap, ◌∙◌, subst, inl, inr, arith, append-nil, length-append, if◌then◌else◌}
+use Rattle.std.specs.Bool.{IsTrue}
+use Rattle.std.specs.List.{AllByRecursion}
+use Rattle.std.proofs.Math.Seq.{take-append_seam}
+use Rattle.std.proofs.lemmas.List.Elements.{filter-append}
+use Rattle.msg_codec.specs.declared.letter.Letter.{Letter}
+use Rattle.ygm_route.specs.declared.scheme.Scheme.{Scheme}
+use Rattle.ygm_route.specs.declared.scheme.Scheme.TheVariants.{Direct}
+use Rattle.ygm_route.specs.Layout.{Shape}
+use Rattle.ygm_route.specs.Hop.{hop}
+use Rattle.ygm_route.specs.Path.{crosses, path, stops}
+use Rattle.ygm_route.proofs.Hops.{hop-direct}
+use Rattle.ygm_route.proofs.Lists.{link_of_two}
+use Rattle.world_core.specs.declared.entry.Entry.{Entry}
+use Rattle.world_core.specs.declared.entry.Entry.TheVariants.{Took}
+use Rattle.world_core.specs.Local.{Local, to_forward, is_rank}
+use Rattle.world_core.specs.Log.{letters_taken}
+use Rattle.world_core.specs.Modest.{IsModest}
+use Rattle.world_core.specs.Pairs.{arrived, for_rank, is_data, is_of_pair, of_pair, of_sender, own, pair_put, pair_taken}
+use Rattle.world_core.specs.Sound.{IsOnPath}
+use Rattle.world_core.proofs.Batch.{pair_put-took, pair_taken-took}
+use Rattle.world_core.proofs.Entries.{letters_put-took, letters_taken-took}
+use Rattle.world_core.proofs.Lists.{all_second, all_weaker, filter_none, and_first, and_second}
+use Rattle.world_core.proofs.Only.{all_taken, false_test}
+use Rattle.comm_rank.specs.Agrees.{IsSublist}
+use Rattle.comm_rank.specs.Rank.{Rank, ran_at}
+use Rattle.comm_rank.specs.Running.{IsFor, IsOf}
+
+-- ---- letters for a rank, and of it
+
+pub for_all : (here : ℕ) (xs : List Letter) → AllByRecursion (IsFor here) xs → for_rank here xs ≡ xs
+for_all here [] h = refl
+for_all here (x ∷ xs) h =
+    let tag : is_data x ≡ true = h.0.tag in
+    let to : nat_eq x.to here ≡ true = eq-eqb x.to here h.0.destination in
+    rw (tag, to) (ap (λ ys. x ∷ ys) (for_all here xs h.1))
+
+pub own_all : (here : ℕ) (xs : List Letter) → AllByRecursion (IsOf here) xs → of_sender here xs ≡ xs
+own_all here [] h = refl
+own_all here (x ∷ xs) h =
+    let tag : is_data x ≡ true = h.0.tag in
+    let from : nat_eq x.from here ≡ true = eq-eqb x.from here h.0.sender in
+    rw (tag, from) (ap (λ ys. x ∷ ys) (own_all here xs h.1))
+
+pub none_of_others : (here from to : ℕ) (xs : List Letter) → from ≢ here → AllByRecursion (IsOf here) xs → of_pair from to xs ≡ []
+none_of_others here from to xs ne all =
+    filter_none (is_of_pair from to) xs (all_weaker (IsOf here) (λ l. is_of_pair from to l ≡ false) xs
+    (λ l h. false_test _ (λ yes. ne (sym (eqb-true _ _ (and_second _ _ (and_first _ _ yes))) ∙ h.sender))) all)
+
+none_to_others : (here from to : ℕ) (xs : List Letter) → here ≢ to → AllByRecursion (IsFor here) xs → of_pair from to xs ≡ []
+none_to_others here from to xs ne all =
+    filter_none (is_of_pair from to) xs (all_weaker (IsFor here) (λ l. is_of_pair from to l ≡ false) xs
+    (λ l h. false_test _ (λ yes. ne (sym h.destination ∙ eqb-true _ _ (and_second _ _ yes)))) all)
+
+-- ---- a take
+
+pub arrived-took : (here : ℕ) (log : List Entry) (from : ℕ) (batch : List Letter) → arrived here (log ++ Took from batch ∷ []) ≡ arrived here log ++ for_rank here batch
+arrived-took here log from batch = ap (for_rank here) (letters_taken-took log from batch) ∙ filter-append _ (letters_taken log) batch
+
+pub own-took : (here : ℕ) (log : List Entry) (from : ℕ) (batch : List Letter) → own here (log ++ Took from batch ∷ []) ≡ own here log
+own-took here log from batch = ap (of_sender here) (letters_put-took log from batch)
+
+-- what there is to forward, where all that a rank takes is for it
+forward_if : (b : Bool) (xs ys : List Letter) → (b ≡ true → xs ≡ ys) → (if b then xs else []) ≡ (if b then ys else [])
+forward_if true xs ys h = h refl
+forward_if false xs ys h = refl
+
+pub forward_same : (me : Local) (from : ℕ) (batch : List Letter) → AllByRecursion (IsFor me.here) batch → (s d : ℕ) →
+    to_forward (record me { log = me.log ++ Took from batch ∷ [] }) s d ≡ to_forward me s d
+unfolding to_forward
+forward_same me from batch all s d =
+    forward_if (is_rank me.layout s && is_rank me.layout d && not (nat_eq me.here d)) _ _ (λ b.
+    let apart : me.here ≢ d = λ e. absurd (let yes : nat_eq me.here d ≡ true = eq-eqb me.here d e in let no : not (nat_eq me.here d) ≡ true = and_second _ _ b in let both : not true ≡ true = ap not (sym yes) ∙ no in cc) in
+    ap (λ xs. drop (length xs) (pair_taken s d (me.log ++ Took from batch ∷ []))) (pair_put-took s d me.log from batch)
+    ∙ ap (drop (length (pair_put s d me.log))) (pair_taken-took s d me.log from batch ∙ ap (λ xs. pair_taken s d me.log ++ xs) (none_to_others me.here s d batch apart all) ∙ append-nil (pair_taken s d me.log)))
+
+-- ---- letters go straight to their destination
+
+path_direct : (layout : Shape) (from to : ℕ) (most : ℕ) → stops layout Direct (suc most) from to ≡ to ∷ []
+path_direct layout from to most =
+    let straight : hop layout Direct from to ≡ to = hop-direct layout from to in
+    let same : nat_eq to to ≡ true = eq-eqb to to refl in
+    rw (straight, same) refl
+
+pub crossed_direct : (layout : Shape) (s d a b : ℕ) → 0 < layout.ranks → IsTrue (crosses (path layout Direct s d) a b) → d ≡ b
+unfolding path
+crossed_direct layout s d a b some h =
+    let P : ℕ → Type 0 = λ n. IsTrue (crosses (s ∷ stops layout Direct n s d) a b) in
+    let size : layout.ranks ≡ suc (layout.ranks - 1) = omega (arith, some) in
+    let at : P (suc (layout.ranks - 1)) = subst P size h in
+    let Q : List ℕ → Type 0 = λ xs. IsTrue (crosses (s ∷ xs) a b) in
+    (link_of_two a b s d (subst Q (path_direct layout s d (layout.ranks - 1)) at)).1
+
+pub crossed_from : (layout : Shape) (s d a b : ℕ) → 0 < layout.ranks → IsTrue (crosses (path layout Direct s d) a b) → s ≡ a
+unfolding path
+crossed_from layout s d a b some h =
+    let P : ℕ → Type 0 = λ n. IsTrue (crosses (s ∷ stops layout Direct n s d) a b) in
+    let size : layout.ranks ≡ suc (layout.ranks - 1) = omega (arith, some) in
+    let at : P (suc (layout.ranks - 1)) = subst P size h in
+    let Q : List ℕ → Type 0 = λ xs. IsTrue (crosses (s ∷ xs) a b) in
+    (link_of_two a b s d (subst Q (path_direct layout s d (layout.ranks - 1)) at)).0
+
+both : (P Q : Letter → Type 0) (xs : List Letter) → AllByRecursion P xs → AllByRecursion Q xs → AllByRecursion (λ l. P l × Q l) xs
+both P Q [] h k = tt
+both P Q (x ∷ xs) h k = ((h.0, k.0), both P Q xs h.1 k.1)
+
+-- what a modest log took last is for the rank
+pub batch_for : (me : Local) (from : ℕ) (batch : List Letter) → 0 < me.layout.ranks → me.scheme ≡ Direct → IsModest (record me { log = me.log ++ Took from batch ∷ [] }) → AllByRecursion (IsFor me.here) batch
+batch_for me from batch some direct modest =
+    let log = me.log ++ Took from batch ∷ [] in
+    let R : Letter → Type 0 = λ l. IsTrue (is_data l) → l.to ≡ me.here in
+    let straight : AllByRecursion R (letters_taken log) =
+    all_taken R log (λ rank. all_weaker (IsOnPath me.layout me.scheme rank me.here) R _
+    (λ l on tag. crossed_direct me.layout l.from l.to rank me.here some (let S : Scheme → Type 0 = λ scheme. IsTrue (crosses (path me.layout scheme l.from l.to) rank me.here) in subst S direct (on tag)))
+    (modest.on_path rank)) in
+    let all : AllByRecursion (IsFor me.here) (letters_taken log) =
+    all_weaker _ (IsFor me.here) (letters_taken log) (λ l h. record { destination = h.1 h.0.tag; tag = h.0.tag }) (both _ R _ modest.lawful straight) in
+    all_second (IsFor me.here) (letters_taken me.log) batch (subst (AllByRecursion (IsFor me.here)) (letters_taken-took me.log from batch) all)
+
+-- ---- what ran
+
+first_part : (xs ys : List Letter) (n : ℕ) → n ≡ length ys → take (length (xs ++ ys) - n) (xs ++ ys) ≡ xs
+first_part xs ys n e =
+    let size : length (xs ++ ys) - n ≡ length xs = omega (arith, e, length-append xs ys) in
+    ap (λ k. take k (xs ++ ys)) size ∙ take-append_seam xs ys
+
+-- of all that arrived, what doesn't wait ran
+pub ran_is : {C : Type 0} (me : Rank C) (log : List Entry) (run waiting : List Letter) → arrived me.here log ≡ run ++ waiting → for_rank me.here me.waiting ≡ waiting → ran_at me log ≡ run
+ran_is me log run waiting all waits =
+    ap (λ xs. take (length xs - length (for_rank me.here me.waiting)) xs) all
+    ∙ first_part run waiting (length (for_rank me.here me.waiting)) (ap length waits)
+
+pub ran_all : {C : Type 0} (me : Rank C) (log : List Entry) → me.waiting ≡ [] → ran_at me log ≡ arrived me.here log
+ran_all me log none = ran_is me log (arrived me.here log) [] (sym (append-nil _)) (ap (for_rank me.here) none)
+
+-- ---- lists with elements left out
+
+sublist_longer : {X : Type 0} (part : List X) (y : X) (whole : List X) → IsSublist part whole → IsSublist part (y ∷ whole)
+sublist_longer [] y whole h = tt
+sublist_longer (x ∷ part) y whole h = inr h
+
+sublist_same : {X : Type 0} (xs : List X) → IsSublist xs xs
+sublist_same [] = tt
+sublist_same (x ∷ xs) = inl (refl, sublist_same xs)
+
+sublist_end : {X : Type 0} (whole more : List X) → IsSublist more (whole ++ more)
+sublist_end [] more = sublist_same more
+sublist_end (y ∷ whole) more = sublist_longer more y (whole ++ more) (sublist_end whole more)
+
+pub sublist_more : {X : Type 0} (part whole more : List X) → IsSublist part whole → IsSublist (part ++ more) (whole ++ more)
+sublist_more [] whole more h = sublist_end whole more
+sublist_more (x ∷ part) [] more h = absurd h
+sublist_more (x ∷ part) (y ∷ whole) more h = elim h [
+  | inl same ↦ inl (same.0, sublist_more part whole more same.1)
+  | inr later ↦ inr (sublist_more (x ∷ part) whole more later)
+]

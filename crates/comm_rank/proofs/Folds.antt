@@ -1,0 +1,205 @@
+-- What a handler makes of letters that run one after another, and what it gives.
+use Rattle.std.proofs.Common.{◌≡◌, ℕ, zero, suc, ◌+◌, ◌<◌, List, [], ◌∷◌, ◌++◌, Some, Result, Ok, Err, OnErr, length, map, take, drop, slice_get, lt-ltb, refl, sym, ap, ◌∙◌, subst, inl, inr, arith, append-nil, append_assoc, length-append}
+use Rattle.std.specs.List.{AllByRecursion}
+use Rattle.std.proofs.lemmas.List.{length-map, length-take-le}
+use Rattle.msg_codec.specs.declared.letter.Letter.{Letter}
+use Rattle.comm_rank.specs.declared.handler.Outbound.{Outbound}
+use Rattle.comm_rank.specs.declared.fault.CommFault.{CommFault}
+use Rattle.comm_rank.specs.declared.fault.CommFault.TheVariants.{Stopped, CountFull, NoMemory}
+use Rattle.comm_rank.specs.Fault.{IfCountFull, IsFullAt}
+use Rattle.comm_rank.specs.Fold.{Applies, letter_by, given_by, fold_from, handed_from}
+use Rattle.comm_rank.specs.Held.{Gains}
+use Rattle.comm_rank.specs.Rank.{Rank, folded, handed}
+use Rattle.comm_rank.specs.Turns.{HasBegun}
+use Rattle.ygm_route.specs.Layout.{Shape}
+use Rattle.world_core.proofs.Lists.{all_append, all_second}
+use Rattle.comm_rank.proofs.Gaining.{gains_none, gains_more}
+use Rattle.comm_rank.specs.Running.{IsFor, IsOf, HasRunAll, IsStuck, RanFirst}
+use Rattle.comm_rank.specs.Sends.{IsData}
+
+pub fold-append : {C : Type 0} (apply : Applies C) (here ranks : ℕ) (c : C) (xs ys : List Letter) →
+    fold_from apply here ranks c (xs ++ ys) ≡ fold_from apply here ranks (fold_from apply here ranks c xs) ys
+fold-append apply here ranks c [] ys = refl
+fold-append apply here ranks c (x ∷ xs) ys = fold-append apply here ranks (apply c here ranks x).0 xs ys
+
+pub handed-append : {C : Type 0} (apply : Applies C) (here ranks : ℕ) (c : C) (xs ys : List Letter) →
+    handed_from apply here ranks c (xs ++ ys) ≡ handed_from apply here ranks c xs ++ handed_from apply here ranks (fold_from apply here ranks c xs) ys
+handed-append apply here ranks c [] ys = refl
+handed-append apply here ranks c (x ∷ xs) ys =
+    ap (λ w. given_by apply here ranks c x ++ w) (handed-append apply here ranks (apply c here ranks x).0 xs ys)
+    ∙ sym (append_assoc (given_by apply here ranks c x) (handed_from apply here ranks (apply c here ranks x).0 xs) _)
+
+pub given_of : (ranks here : ℕ) (outs : List Outbound) → AllByRecursion (IsData ranks) outs → AllByRecursion (IsOf here) (map (letter_by here) outs)
+given_of ranks here [] h = tt
+given_of ranks here (o ∷ outs) h = (record { sender = refl; tag = lt-ltb o.tag 240 h.0.tag }, given_of ranks here outs h.1)
+
+pub all_take : {X : Type 0} (P : X → Type 0) (k : ℕ) (xs : List X) → AllByRecursion P xs → AllByRecursion P (take k xs)
+all_take P zero xs h = tt
+all_take P (suc k) [] h = tt
+all_take P (suc k) (x ∷ xs) h = (h.0, all_take P k xs h.1)
+
+-- ---- faults
+
+pub on_err : {A E : Type 0} (r : Result A E) (P : Type 0) → P → OnErr r P
+on_err (Ok a) P p = tt
+on_err (Err e) P p = p
+
+pub too_many : (count most all : ℕ) → count < all → (fault : CommFault) → IsFullAt count most fault → IfCountFull fault (λ _. most < all)
+too_many count most all h Stopped f = tt
+too_many count most all h NoMemory f = tt
+too_many count most all h (CountFull at) f = omega (arith, f.0)
+
+pub first_of : (waiting : List Letter) (l : Letter) → slice_get waiting 0 ≡ Some l → waiting ≡ l ∷ drop 1 waiting
+first_of [] l h = absurd cc
+first_of (x ∷ waiting) l h = let same : x ≡ l = cc in ap (λ y. y ∷ waiting) same
+
+-- ---- one letter
+
+module _ {C : Type 0} (apply : Applies C) (was old new : Rank C) (e : was ≡ old) where
+  -- its handler refused it, and nothing changed
+  pub stuck_refused : new.contents ≡ was.contents → new.held ≡ was.held → new.run_count ≡ was.run_count → new.sent_count ≡ was.sent_count → IsStuck apply old new [] []
+  stuck_refused contents held run_count sent_count = subst (λ (me : Rank C). IsStuck apply me new [] []) e (record {
+    begun = inl (contents, refl);
+    held = subst (λ h. Gains was.held h []) (sym held) (gains_none was.held);
+    lawful = tt;
+    run_count = omega (arith, run_count);
+    sent_count = omega (arith, sent_count);
+  })
+
+  module _ (outs : List Outbound) (l : Letter) (is : outs ≡ (apply was.contents was.here was.layout.ranks l).1) (made : new.contents ≡ (apply was.contents was.here was.layout.ranks l).0)
+      (lawful : AllByRecursion (IsData was.layout.ranks) outs) (first : slice_get was.waiting 0 ≡ Some l) where
+    given_is : map (letter_by was.here) outs ≡ given_by apply was.here was.layout.ranks was.contents l
+    given_is = ap (map (letter_by was.here)) is
+
+    -- of what its handler gave only the first is held
+    pub stuck_sending : (k : ℕ) → new.waiting ≡ was.waiting → k < length outs →
+        Gains was.held new.held (take k (map (letter_by was.here) outs)) → new.run_count ≡ was.run_count → new.sent_count ≡ was.sent_count + k →
+        (x : List Letter) × IsStuck apply old new [] x
+    stuck_sending k waits few held run_count sent_count = (
+      take k (map (letter_by was.here) outs),
+      subst (λ (me : Rank C). IsStuck apply me new [] (take k (map (letter_by was.here) outs))) e (record {
+        begun = inr (l, k, ap (λ w. slice_get w 0) waits ∙ first, made, omega (arith, few, ap length given_is, length-map outs (letter_by was.here)), ap (take k) given_is);
+        held = held;
+        lawful = all_take (IsOf was.here) k _ (given_of was.layout.ranks was.here outs lawful);
+        run_count = omega (arith, run_count);
+        sent_count = omega (arith, sent_count, length-take-le k (map (letter_by was.here) outs) (omega (arith, few, length-map outs (letter_by was.here))));
+      }),
+    )
+
+    -- all that its handler gave is held
+    pub ran_first : new.waiting ≡ drop 1 was.waiting → Gains was.held new.held (map (letter_by was.here) outs) →
+        new.run_count ≡ was.run_count + 1 → new.sent_count ≡ was.sent_count + length outs → RanFirst apply old new
+    ran_first rest held run_count sent_count =
+        let all : map (letter_by was.here) outs ≡ handed apply was (l ∷ []) = given_is ∙ sym (append-nil (given_by apply was.here was.layout.ranks was.contents l)) in
+        subst (λ (me : Rank C). RanFirst apply me new) e (record {
+          letter = l;
+          first = first_of was.waiting l first ∙ ap (λ w. l ∷ w) (sym rest);
+          ran = record {
+            contents = made;
+            held = subst (Gains was.held new.held) all held;
+            lawful = subst (AllByRecursion (IsOf was.here)) all (given_of was.layout.ranks was.here outs lawful);
+            run_count = run_count;
+            sent_count = omega (arith, sent_count, ap length all, length-map outs (letter_by was.here));
+          };
+        })
+
+-- more was given than is held of it
+pub more_given : {C : Type 0} (apply : Applies C) (was old : Rank C) (e : was ≡ old) (outs : List Outbound) (l : Letter) (k : ℕ) → outs ≡ (apply was.contents was.here was.layout.ranks l).1 →
+    slice_get was.waiting 0 ≡ Some l → k < length outs → was.sent_count + k < old.sent_count + length (handed apply old old.waiting)
+more_given {C} apply was old e outs l k is first few =
+    let given = given_by apply was.here was.layout.ranks was.contents l in
+    let size : length given ≡ length outs = ap (λ xs. length (map (letter_by was.here) xs)) (sym is) ∙ length-map outs (letter_by was.here) in
+    subst (λ (me : Rank C). was.sent_count + k < me.sent_count + length (handed apply me me.waiting)) e
+    (omega (
+      arith,
+      few,
+      size,
+      ap (λ w. length (handed apply was w)) (first_of was.waiting l first),
+      length-append given (handed_from apply was.here was.layout.ranks (apply was.contents was.here was.layout.ranks l).0 (drop 1 was.waiting)),
+    ))
+
+-- what a handler gave where nothing was given before, and what it made of its contents
+pub outs_are : {C : Type 0} (apply : Applies C) (here n m : ℕ) (c : C) (l : Letter) (old new : List Outbound) → n ≡ m → old ≡ [] → new ≡ old ++ (apply c here n l).1 → new ≡ (apply c here m l).1
+outs_are apply here n m c l old new same none is =
+    is ∙ ap (λ (w : List Outbound). w ++ (apply c here n l).1) none ∙ ap (λ k. (apply c here k l).1) same
+
+pub made_are : {C : Type 0} (apply : Applies C) (here n m : ℕ) (c new : C) (l : Letter) → n ≡ m → new ≡ (apply c here n l).0 → new ≡ (apply c here m l).0
+made_are apply here n m c new l same is = is ∙ ap (λ k. (apply c here k l).0) same
+
+-- ---- letter after letter
+
+-- no letter ran yet
+pub ran_none : {C : Type 0} (apply : Applies C) (me : Rank C) → HasRunAll apply me me []
+ran_none apply me = record { contents = refl; held = gains_none me.held; lawful = tt; run_count = omega arith; sent_count = omega arith }
+
+module _ {C : Type 0} (apply : Applies C) (old mid new : Rank C) (same_here : mid.here ≡ old.here) (same_layout : mid.layout ≡ old.layout) where
+  -- what runs at a rank later runs at the contents that the first letters left
+  later_fold : (c : C) (xs : List Letter) → mid.contents ≡ c → folded apply mid xs ≡ fold_from apply old.here old.layout.ranks c xs
+  later_fold c xs e =
+      ap (λ h. fold_from apply h mid.layout.ranks mid.contents xs) same_here
+      ∙ ap (λ (s : Shape). fold_from apply old.here s.ranks mid.contents xs) same_layout
+      ∙ ap (λ x. fold_from apply old.here old.layout.ranks x xs) e
+
+  later_handed : (c : C) (xs : List Letter) → mid.contents ≡ c → handed apply mid xs ≡ handed_from apply old.here old.layout.ranks c xs
+  later_handed c xs e =
+      ap (λ h. handed_from apply h mid.layout.ranks mid.contents xs) same_here
+      ∙ ap (λ (s : Shape). handed_from apply old.here s.ranks mid.contents xs) same_layout
+      ∙ ap (λ x. handed_from apply old.here old.layout.ranks x xs) e
+
+  module _ (run : List Letter) (before : mid.contents ≡ folded apply old run) where
+    pub folded_on : (more : List Letter) → folded apply mid more ≡ folded apply old (run ++ more)
+    folded_on more = later_fold (folded apply old run) more before ∙ sym (fold-append apply old.here old.layout.ranks old.contents run more)
+
+    pub handed_on : (more : List Letter) → handed apply old (run ++ more) ≡ handed apply old run ++ handed apply mid more
+    handed_on more =
+        handed-append apply old.here old.layout.ranks old.contents run more
+        ∙ ap (λ xs. handed apply old run ++ xs) (sym (later_handed (folded apply old run) more before))
+
+  pub ran_more : (run more : List Letter) → HasRunAll apply old mid run → HasRunAll apply mid new more → HasRunAll apply old new (run ++ more)
+  ran_more run more first second =
+      let on : handed apply old (run ++ more) ≡ handed apply old run ++ handed apply mid more = handed_on run first.contents more in
+      record {
+        contents = second.contents ∙ folded_on run first.contents more;
+        held = subst (Gains old.held new.held) (sym on) (gains_more old.held mid.held new.held _ _ first.held second.held);
+        lawful = subst (AllByRecursion (IsOf old.here)) (sym on)
+            (all_append (IsOf old.here) (handed apply old run) (handed apply mid more) first.lawful (subst (λ h. AllByRecursion (IsOf h) (handed apply mid more)) same_here second.lawful));
+        run_count = omega (arith, first.run_count, second.run_count, length-append run more);
+        sent_count = omega (arith, first.sent_count, second.sent_count, ap length on, length-append (handed apply old run) (handed apply mid more));
+      }
+
+  pub begun_same : (waiting given : List Letter) (a b after : C) → a ≡ b → HasBegun apply mid.here mid.layout.ranks a after waiting given → HasBegun apply old.here old.layout.ranks b after waiting given
+  begun_same waiting given a b after e h =
+      subst (λ x. HasBegun apply old.here old.layout.ranks x after waiting given) e
+      (subst (λ (s : Shape). HasBegun apply old.here s.ranks a after waiting given) same_layout
+      (subst (λ n. HasBegun apply n mid.layout.ranks a after waiting given) same_here h))
+
+  pub stuck_later : (run more given : List Letter) → HasRunAll apply old mid run → IsStuck apply mid new more given → IsStuck apply old new (run ++ more) given
+  stuck_later run more given first second =
+      let on : handed apply old (run ++ more) ≡ handed apply old run ++ handed apply mid more = handed_on run first.contents more in
+      let on_given : handed apply old (run ++ more) ++ given ≡ handed apply old run ++ (handed apply mid more ++ given) =
+      ap (λ xs. xs ++ given) on ∙ append_assoc (handed apply old run) (handed apply mid more) given in
+      record {
+        begun = begun_same new.waiting given _ _ new.contents (folded_on run first.contents more) second.begun;
+        held = subst (Gains old.held new.held) (sym on_given) (gains_more old.held mid.held new.held _ _ first.held second.held);
+        lawful = subst (AllByRecursion (IsOf old.here)) (sym on_given)
+            (all_append (IsOf old.here) (handed apply old run) (handed apply mid more ++ given) first.lawful (subst (λ h. AllByRecursion (IsOf h) (handed apply mid more ++ given)) same_here second.lawful));
+        run_count = omega (arith, first.run_count, second.run_count, length-append run more);
+        sent_count = omega (arith, first.sent_count, second.sent_count, ap length on, length-append (handed apply old run) (handed apply mid more));
+      }
+
+  -- more was given than may be sent
+  pub too_many_later : (run rest : List Letter) → HasRunAll apply old mid run → mid.sent_count + length (handed apply mid rest) ≡ old.sent_count + length (handed apply old (run ++ rest))
+  too_many_later run rest first = omega (arith, first.sent_count, ap length (handed_on run first.contents rest), length-append (handed apply old run) (handed apply mid rest))
+
+-- the letters behind the first of those that waited
+pub waits_one_less : (waiting run rest now : List Letter) (l : Letter) → waiting ≡ run ++ rest → rest ≡ l ∷ now → waiting ≡ (run ++ l ∷ []) ++ now
+waits_one_less waiting run rest now l e f = e ∙ ap (λ w. run ++ w) f ∙ sym (append_assoc run (l ∷ []) now)
+
+pub rest_for : (here there : ℕ) (waiting run rest : List Letter) → waiting ≡ run ++ rest → here ≡ there → AllByRecursion (IsFor there) waiting → AllByRecursion (IsFor here) rest
+rest_for here there waiting run rest e same all =
+    subst (λ h. AllByRecursion (IsFor h) rest) (sym same) (all_second (IsFor there) run rest (subst (AllByRecursion (IsFor there)) e all))
+
+pub too_many_there : (most most' : ℕ) (a b : ℕ) → most' ≡ most → a ≡ b → (fault : CommFault) → IfCountFull fault (λ _. most' < a) → IfCountFull fault (λ _. most < b)
+too_many_there most most' a b e f Stopped h = tt
+too_many_there most most' a b e f NoMemory h = tt
+too_many_there most most' a b e f (CountFull at) h = omega (arith, h)

@@ -1,0 +1,216 @@
+-- Takes from one rank after another.
+use Rattle.std.proofs.Common.{◌≡◌, ◌≢◌, ℕ, zero, suc, ◌+◌, ◌<◌, ◌≤◌, List, [], ◌∷◌, ◌++◌, length, drop, get_or, refl, sym, ap, ◌∙◌, subst, inl, inr, arith, append-nil, append_assoc, length-append}
+use Rattle.std.specs.List.{AllByRecursion, AllPairs}
+use Rattle.std.proofs.Math.Seq.{drop-append_seam}
+use Rattle.std.proofs.lemmas.Bool.{cases_eq}
+use Rattle.std.proofs.lemmas.Grind.{flat_map-append}
+use Rattle.std.proofs.lemmas.List.Elements.{filter-append}
+use Rattle.std.proofs.lemmas.List.Quantifiers.{all_pairs_push}
+use Rattle.msg_codec.specs.declared.letter.Letter.{Letter}
+use Rattle.world_core.specs.declared.entry.Entry.{Entry}
+use Rattle.world_core.specs.Log.{batches_taken, letters_taken, letters_taken_by}
+use Rattle.world_core.specs.Pairs.{arrived, for_rank, is_of_pair, of_pair}
+use Rattle.world_core.specs.Post.{Told, Rose}
+use Rattle.world_core.proofs.Lists.{all_append, all_weaker}
+use Rattle.comm_rank.specs.Fold.{Applies}
+use Rattle.comm_rank.specs.Rank.{Rank, IsSameRank, handed, ran_at, sent_to}
+use Rattle.comm_rank.specs.Running.{CutFrom, NotLookedAt, PostTook, TookBelow, TookFrom}
+use Rattle.comm_rank.specs.Turns.{Advanced, CutOff, IsTake, LookedAt, came_in, other_end}
+use Rattle.comm_rank.proofs.Folds.{begun_same, folded_on, handed_on}
+
+-- ---- in the order of ranks
+
+all_at : {X : Type 0} (P : X → Type 0) (xs : List X) → AllByRecursion P xs → (k : ℕ) (d : X) → k < length xs → P (get_or xs k d)
+all_at P [] h k d within = absurd (omega (arith, within))
+all_at P (x ∷ xs) h zero d within = h.0
+all_at P (x ∷ xs) h (suc k) d within = all_at P xs h.1 k d (omega (arith, within))
+
+abbrev Before : Entry → Entry → Type 0
+Before one later = other_end one < other_end later
+
+in_order_more : (from : ℕ) (xs ys : List Entry) → AllPairs Before xs → AllByRecursion (λ entry. other_end entry < from) xs → AllByRecursion (λ entry. other_end entry ≡ from) ys → length ys ≤ 1 → AllPairs Before (xs ++ ys)
+in_order_more from xs [] h below alone one = subst (AllPairs Before) (sym (append-nil xs)) h
+in_order_more from xs (y ∷ []) h below alone one = all_pairs_push Before xs y h (λ k d within. omega (arith, all_at (λ entry. other_end entry < from) xs below k d within, alone.0))
+in_order_more from xs (y ∷ z ∷ ys) h below alone one = absurd (omega (arith, one))
+
+below_more : (from : ℕ) (xs ys : List Entry) → AllByRecursion (λ entry. other_end entry < from) xs → AllByRecursion (λ entry. other_end entry ≡ from) ys → AllByRecursion (λ entry. other_end entry < from + 1) (xs ++ ys)
+below_more from xs ys below alone =
+    all_append _ xs ys (all_weaker _ _ xs (λ entry h. omega (arith, h)) below) (all_weaker _ _ ys (λ entry h. omega (arith, h)) alone)
+
+taken_append : (here : ℕ) (xs ys : List Entry) → for_rank here (letters_taken (xs ++ ys)) ≡ for_rank here (letters_taken xs) ++ for_rank here (letters_taken ys)
+taken_append here xs ys = ap (for_rank here) (flat_map-append letters_taken_by xs ys) ∙ filter-append _ (letters_taken xs) (letters_taken ys)
+
+-- ---- one rank after another
+
+module _ {C : Type 0} (apply : Applies C) (old mid new : Rank C) (before between after : List Entry) (same : IsSameRank old mid) where
+  module _ (run more : List Letter) (first : Advanced apply old mid before between run) where
+    handed_both : handed apply old (run ++ more) ≡ handed apply old run ++ handed apply mid more
+    handed_both = handed_on apply old mid new same.here same.layout run first.contents more
+
+    sent_both : (given : List Letter) → ((to : ℕ) → sent_to new after to ≡ sent_to mid between to ++ of_pair mid.here to (handed apply mid more ++ given)) →
+        (to : ℕ) → sent_to new after to ≡ sent_to old before to ++ of_pair old.here to (handed apply old (run ++ more) ++ given)
+    sent_both given second to =
+        let all : handed apply old (run ++ more) ++ given ≡ handed apply old run ++ (handed apply mid more ++ given) =
+        ap (λ xs. xs ++ given) handed_both ∙ append_assoc (handed apply old run) (handed apply mid more) given in
+        second to ∙ ap (λ h. sent_to mid between to ++ of_pair h to (handed apply mid more ++ given)) same.here
+        ∙ ap (λ xs. xs ++ of_pair old.here to (handed apply mid more ++ given)) (first.sent to)
+        ∙ append_assoc (sent_to old before to) (of_pair old.here to (handed apply old run)) (of_pair old.here to (handed apply mid more ++ given))
+        ∙ ap (λ xs. sent_to old before to ++ xs) (sym (filter-append (is_of_pair old.here to) (handed apply old run) (handed apply mid more ++ given)) ∙ ap (of_pair old.here to) (sym all))
+
+    pub advanced_more : Advanced apply mid new between after more → Advanced apply old new before after (run ++ more)
+    advanced_more second = record {
+      ran = second.ran ∙ ap (λ xs. xs ++ more) first.ran ∙ append_assoc (ran_at old before) run more;
+      contents = second.contents ∙ folded_on apply old mid new same.here same.layout run first.contents more;
+      sent = λ to.
+          sent_both [] (λ t. second.sent t ∙ ap (λ xs. sent_to mid between t ++ of_pair mid.here t xs) (sym (append-nil (handed apply mid more)))) to
+          ∙ ap (λ xs. sent_to old before to ++ of_pair old.here to xs) (append-nil (handed apply old (run ++ more)));
+      run_count = omega (arith, first.run_count, second.run_count, length-append run more);
+      sent_count = omega (arith, first.sent_count, second.sent_count, ap length handed_both, length-append (handed apply old run) (handed apply mid more));
+    }
+
+  module _ (from took : ℕ) (first : TookBelow from apply old mid before between took) where
+    taken : List Entry
+    taken = first.all.taken
+
+    pub joined : (more : ℕ) → TookFrom from apply mid new between after more → TookBelow (from + 1) apply old new before after (took + more)
+    joined more second =
+        let later = second.all.taken in
+        let run = for_rank old.here (letters_taken first.all.taken) in
+        let there : for_rank mid.here (letters_taken later) ≡ for_rank old.here (letters_taken later) = ap (λ h. for_rank h (letters_taken later)) same.here in
+        let size : length later ≤ 1 = omega (arith, second.one, second.all.took_count) in
+        record {
+          all = record {
+            taken = first.all.taken ++ later;
+            gained = record {
+              log = second.all.gained.log ∙ ap (λ xs. xs ++ later) first.all.gained.log ∙ append_assoc before first.all.taken later;
+              takes = all_append IsTake first.all.taken later first.all.gained.takes second.all.gained.takes;
+              in_order = in_order_more from first.all.taken later first.all.gained.in_order first.below second.alone size;
+            };
+            advanced = subst (Advanced apply old new before after) (ap (λ xs. run ++ xs) there ∙ sym (taken_append old.here first.all.taken later))
+                (advanced_more run (for_rank mid.here (letters_taken later)) first.all.advanced second.all.advanced);
+            nothing_waits = second.all.nothing_waits;
+            took_count = omega (arith, first.all.took_count, second.all.took_count, length-append first.all.taken later);
+          };
+          below = below_more from first.all.taken later first.below second.alone;
+        }
+
+    pub cut_later : CutFrom from apply mid new between after → CutOff apply old new before after
+    cut_later second =
+        let c = second.cut in
+        let run = for_rank old.here (letters_taken first.all.taken) in
+        let n = letters_taken c.taken in
+        record {
+          taken = first.all.taken ++ c.taken;
+          placed = c.placed;
+          run = run ++ c.run;
+          given = c.given;
+          gained = record {
+            log = c.gained.log ∙ ap (λ xs. xs ++ c.placed) (ap (λ xs. xs ++ c.taken) first.all.gained.log ∙ append_assoc before first.all.taken c.taken);
+            takes = all_append IsTake first.all.taken c.taken first.all.gained.takes c.gained.takes;
+            in_order = in_order_more from first.all.taken c.taken first.all.gained.in_order first.below second.alone second.one;
+            puts = c.gained.puts;
+          };
+          arrived =
+              taken_append old.here first.all.taken c.taken
+              ∙ ap (λ xs. run ++ xs) (ap (λ h. for_rank h n) (sym same.here) ∙ c.arrived ∙ ap (λ h. c.run ++ for_rank h new.waiting) same.here)
+              ∙ sym (append_assoc run c.run (for_rank old.here new.waiting));
+          ran = c.ran ∙ ap (λ xs. xs ++ c.run) first.all.advanced.ran ∙ append_assoc (ran_at old before) run c.run;
+          begun = begun_same apply old mid new same.here same.layout new.waiting c.given _ _ new.contents
+              (folded_on apply old mid new same.here same.layout run first.all.advanced.contents c.run) c.begun;
+          sent = sent_both run c.run first.all.advanced c.given c.sent;
+          run_count = omega (arith, first.all.advanced.run_count, c.run_count, length-append run c.run);
+          sent_count =
+              omega (arith, first.all.advanced.sent_count, c.sent_count, ap length (handed_both run c.run first.all.advanced), length-append (handed apply old run) (handed apply mid c.run));
+        }
+
+    -- what came, and what it would have given
+    pub handed_later : CutFrom from apply mid new between after →
+        mid.sent_count + length (handed apply mid (came_in mid.here between after)) ≡ old.sent_count + length (handed apply old (came_in old.here before after))
+    handed_later second =
+        let c = second.cut in
+        let here = old.here in
+        let run = for_rank here (letters_taken first.all.taken) in
+        let later = for_rank here (letters_taken c.taken) in
+        let log : after ≡ between ++ c.taken = c.gained.log ∙ ap (λ xs. (between ++ c.taken) ++ xs) second.none_placed ∙ append-nil _ in
+        let middle : arrived here between ≡ arrived here before ++ run = ap (arrived here) first.all.gained.log ∙ taken_append here before first.all.taken in
+        let last : arrived here after ≡ arrived here between ++ later = ap (arrived here) log ∙ taken_append here between c.taken in
+        let whole : arrived here after ≡ arrived here before ++ (run ++ later) = last ∙ ap (λ xs. xs ++ later) middle ∙ append_assoc (arrived here before) run later in
+        let came_mid : came_in mid.here between after ≡ later =
+        ap (λ h. came_in h between after) same.here ∙ ap (drop (length (arrived here between))) last ∙ drop-append_seam (arrived here between) later in
+        let came_old : came_in here before after ≡ run ++ later = ap (drop (length (arrived here before))) whole ∙ drop-append_seam (arrived here before) (run ++ later) in
+        omega (
+          arith,
+          first.all.advanced.sent_count,
+          ap (λ xs. length (handed apply mid xs)) came_mid,
+          ap (λ xs. length (handed apply old xs)) came_old,
+          ap length (handed_both run later first.all.advanced),
+          length-append (handed apply old run) (handed apply mid later),
+        )
+
+pub took_nothing : {C : Type 0} (apply : Applies C) (me : Rank C) (log : List Entry) (bound : ℕ) → me.waiting ≡ [] → TookBelow bound apply me me log log 0
+took_nothing apply me log bound none = record {
+  all = record {
+    taken = [];
+    gained = record { log = sym (append-nil log); takes = tt; in_order = λ i j d less within. absurd (omega (arith, less, within)) };
+    advanced = record { ran = sym (append-nil _); contents = refl; sent = λ to. sym (append-nil _); run_count = omega arith; sent_count = omega arith };
+    nothing_waits = none;
+    took_count = refl;
+  };
+  below = tt;
+}
+
+-- ---- at the post
+
+pub post_none : (here : ℕ) (told : Told) → PostTook here told told
+post_none here told = record {
+  same = record { layout = refl; scheme = refl; ring = refl; batches = refl; serves = λ rank. refl; other_logs = λ rank ne. refl };
+  stops = λ rank. refl;
+  fulls = λ rank. refl;
+  halts = refl;
+}
+
+pub post_more : (here there : ℕ) (a b c : Told) → there ≡ here → PostTook here a b → PostTook there b c → PostTook here a c
+post_more here there a b c e first second = record {
+  same = record {
+    layout = second.same.layout ∙ first.same.layout;
+    scheme = second.same.scheme ∙ first.same.scheme;
+    ring = second.same.ring ∙ first.same.ring;
+    batches = second.same.batches ∙ first.same.batches;
+    serves = λ rank. second.same.serves rank ∙ first.same.serves rank;
+    other_logs = λ rank ne. second.same.other_logs rank (λ f. ne (f ∙ e)) ∙ first.same.other_logs rank ne;
+  };
+  stops = λ rank. second.stops rank ∙ first.stops rank;
+  fulls = λ rank. second.fulls rank ∙ first.fulls rank;
+  halts = second.halts ∙ first.halts;
+}
+
+-- what happens afterwards takes nothing from the rank and misses nothing there, as puts do
+pub looked_still : (here from : ℕ) (a b c : Told) → LookedAt here from a b → batches_taken from (c.log here) ≡ batches_taken from (b.log here) → c.misses from ≡ b.misses from → LookedAt here from a c
+looked_still here from a b c looked taken misses = elim looked [
+  | inl took ↦ inl (ap length taken ∙ took)
+  | inr missed ↦ inr (subst (Rose (a.misses from)) (sym misses) missed.0, missed.1)
+]
+
+pub looked_later : (here from : ℕ) (a b c : Told) → LookedAt here from a b → NotLookedAt here from b c → LookedAt here from a c
+looked_later here from a b c looked not = looked_still here from a b c looked not.taken not.misses
+
+pub looked_first : (here from : ℕ) (a b c : Told) → NotLookedAt here from a b → LookedAt here from b c → LookedAt here from a c
+looked_first here from a b c not looked = elim looked [
+  | inl took ↦ inl (took ∙ ap (λ xs. length xs + 1) not.taken)
+  | inr missed ↦ inr (subst (λ m. Rose m (c.misses from)) not.misses missed.0, λ serves. sym not.link ∙ missed.1 (not.serves ∙ serves))
+]
+
+pub not_looked_more : (here from : ℕ) (a b c : Told) → NotLookedAt here from a b → NotLookedAt here from b c → NotLookedAt here from a c
+not_looked_more here from a b c first second = record { taken = second.taken ∙ first.taken; misses = second.misses ∙ first.misses; serves = second.serves ∙ first.serves; link = second.link ∙ first.link }
+
+pub looked_below : (here there from : ℕ) (a b c : Told) → there ≡ here → ((k : ℕ) → k < from → LookedAt here k a b) → ((k : ℕ) → from ≤ k → NotLookedAt here k a b) →
+    LookedAt there from b c → ((k : ℕ) → k ≢ from → NotLookedAt there k b c) → (k : ℕ) → k < from + 1 → LookedAt here k a c
+looked_below here there from a b c e looked not now others k within = elim (cases_eq k from) [
+  | inl f ↦ subst (λ m. LookedAt here m a c) (sym f) (looked_first here from a b c (not from (omega arith)) (subst (λ h. LookedAt h from b c) e now))
+  | inr ne ↦ looked_later here k a b c (looked k (omega (arith, within))) (subst (λ h. NotLookedAt h k b c) e (others k ne))
+]
+
+pub not_looked_above : (here there from : ℕ) (a b c : Told) → there ≡ here → ((k : ℕ) → from ≤ k → NotLookedAt here k a b) →
+    ((k : ℕ) → k ≢ from → NotLookedAt there k b c) → (k : ℕ) → from + 1 ≤ k → NotLookedAt here k a c
+not_looked_above here there from a b c e not others k past =
+    not_looked_more here k a b c (not k (omega (arith, past))) (subst (λ h. NotLookedAt h k b c) e (others k (λ f. absurd (omega (arith, past)))))

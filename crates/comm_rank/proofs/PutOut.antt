@@ -1,0 +1,116 @@
+-- A rank agrees with its log still, once it put some of what it holds.
+use Rattle.std.proofs.Common.{◌≡◌, ◌≢◌, ℕ, ◌+◌, ◌-◌, ◌<◌, ◌≤◌, List, [], ◌∷◌, ◌++◌, length, take, refl, sym, ap, ◌∙◌, subst, append-nil, append_assoc, arith, ◌^◌}
+use Rattle.std.specs.Bool.{IsTrue}
+use Rattle.std.specs.List.{AllByRecursion}
+use Rattle.msg_codec.specs.declared.letter.Letter.{Letter}
+use Rattle.ygm_route.specs.declared.scheme.Scheme.TheVariants.{Direct}
+use Rattle.ygm_route.specs.Layout.{Shape}
+use Rattle.world_core.specs.declared.entry.Entry.{Entry}
+use Rattle.world_core.specs.declared.entry.Entry.TheVariants.{Put, Took}
+use Rattle.world_core.specs.Local.{Local}
+use Rattle.world_core.specs.Log.{batches_taken, letters_of, letters_taken}
+use Rattle.world_core.specs.Modest.{IsLawful, IsModest}
+use Rattle.world_core.specs.Pairs.{arrived, for_rank, of_pair, of_sender, own}
+use Rattle.world_core.specs.Post.{Told}
+use Rattle.world_core.specs.Sound.{IsOnPath}
+use Rattle.world_core.proofs.Lists.{all_weaker}
+use Rattle.world_core.proofs.Entries.{letters_taken-put, batches_taken-put}
+use Rattle.comm_rank.specs.Agrees.{Agrees, IsSublist}
+use Rattle.comm_rank.specs.Fold.{Applies, fold_from, handed_from}
+use Rattle.comm_rank.specs.Puts.{MayPut, Moved, PutOut}
+use Rattle.comm_rank.specs.Rank.{Rank, held_letters, local_of, ran_at, sent_to}
+use Rattle.comm_rank.specs.Turns.{IsPut}
+use Rattle.comm_rank.proofs.Direct.{nothing_to_forward}
+
+-- ---- what a log took stands as it gains puts
+
+pub same_taken : (placed log : List Entry) → AllByRecursion IsPut placed → letters_taken (log ++ placed) ≡ letters_taken log
+same_taken [] log all = ap letters_taken (append-nil log)
+same_taken (Put to batch ∷ placed) log all =
+    ap letters_taken (sym (append_assoc log (Put to batch ∷ []) placed)) ∙ same_taken placed (log ++ Put to batch ∷ []) all.1 ∙ letters_taken-put log to batch
+same_taken (Took from batch ∷ placed) log all = absurd all.0
+
+pub same_batches_taken : (from : ℕ) (placed log : List Entry) → AllByRecursion IsPut placed → batches_taken from (log ++ placed) ≡ batches_taken from log
+same_batches_taken from [] log all = ap (batches_taken from) (append-nil log)
+same_batches_taken from (Put to batch ∷ placed) log all =
+    ap (batches_taken from) (sym (append_assoc log (Put to batch ∷ []) placed)) ∙ same_batches_taken from placed (log ++ Put to batch ∷ []) all.1 ∙ batches_taken-put log to from batch
+same_batches_taken from (Took sender batch ∷ placed) log all = absurd all.0
+
+pub modest_still : (me : Local) (placed : List Entry) → AllByRecursion IsPut placed → IsModest me → IsModest (record me { log = me.log ++ placed })
+modest_still me placed all modest =
+    let taken : letters_taken (me.log ++ placed) ≡ letters_taken me.log = same_taken placed me.log all in
+    record {
+      few = omega (arith, ap (λ ls. length (for_rank me.here ls)) taken, modest.few);
+      lawful = (let P : List Letter → Type 0 = AllByRecursion (IsLawful me) in all_lawful (subst P (sym taken) modest.lawful));
+      on_path = λ from.
+          let P : List (List Letter) → Type 0 = λ bs. AllByRecursion (IsOnPath me.layout me.scheme from me.here) (letters_of bs) in
+          subst P (sym (same_batches_taken from placed me.log all)) (modest.on_path from);
+    }
+  where
+    all_lawful : AllByRecursion (IsLawful me) (letters_taken (me.log ++ placed)) → AllByRecursion (IsLawful (record me { log = me.log ++ placed })) (letters_taken (me.log ++ placed))
+    all_lawful h = all_weaker _ _ _ (λ l k. record { destination = k.destination; sender = k.sender; tag = k.tag }) h
+
+-- ---- the rank
+
+module _ {C : Type 0} (apply : Applies C) (start : C → C) (me : Rank C) (log : List Entry) (agrees : Agrees apply start me log) (direct : me.scheme ≡ Direct) where
+  -- it holds own letters alone
+  pub own_alone : (from to : ℕ) → from ≢ me.here → of_pair from to (held_letters me) ≡ []
+  own_alone from to other = agrees.forwards from to other ∙ nothing_to_forward (local_of me log) direct agrees.modest from to
+
+  module _ (held : List (List Letter)) (now : List Entry) (placed : List Entry) (gained : now ≡ log ++ placed) (puts : AllByRecursion IsPut placed) where
+    abbrev new : Rank C
+    new = record me { held = held }
+
+    pub ran_stands : ran_at new now ≡ ran_at me log
+    ran_stands =
+        let same : arrived me.here now ≡ arrived me.here log = ap (arrived me.here) gained ∙ ap (for_rank me.here) (same_taken placed log puts) in
+        ap (λ xs. take (length xs - length (for_rank me.here me.waiting)) xs) same
+
+    module _ (sent_stands : (to : ℕ) → sent_to new now to ≡ sent_to me log to)
+        (count_stands : length (own me.here now) + length (of_sender me.here (letters_of held)) ≡ length (own me.here log) + length (of_sender me.here (held_letters me)))
+        (alone : (from to : ℕ) → from ≢ me.here → of_pair from to (letters_of held) ≡ []) where
+      pub agrees_still : Agrees apply start new now
+      agrees_still =
+          let P : List Entry → Type 0 = λ l. IsModest (local_of me l) in
+          let modest : IsModest (local_of new now) = subst P (sym gained) (modest_still (local_of me log) placed puts agrees.modest) in
+          record {
+            nothing_waits = agrees.nothing_waits;
+            forwards = λ from to other. alone from to other ∙ sym (nothing_to_forward (local_of new now) direct modest from to);
+            sent_count = agrees.sent_count ∙ sym count_stands;
+            run_count = agrees.run_count ∙ ap length (sym ran_stands);
+            contents = agrees.contents ∙ ap (fold_from apply me.here me.layout.ranks (start me.contents)) (sym ran_stands);
+            answered = λ to.
+                let Q : List Letter → List Letter → Type 0 = λ ran sent. IsSublist (of_pair me.here to (handed_from apply me.here me.layout.ranks (start me.contents) ran)) sent in
+                subst (λ ran. Q ran (sent_to new now to)) (sym ran_stands) (subst (λ sent. Q (ran_at me log) sent) (sym (sent_stands to)) (agrees.answered to));
+            modest = modest;
+          }
+
+-- ---- from what puts did to what is held
+
+module _ {C : Type 0} (apply : Applies C) (start : C → C) (me : Rank C) (old : Told) (agrees : Agrees apply start me (old.log me.here)) (direct : me.scheme ≡ Direct) where
+  pub may_put : me.here < me.layout.ranks → length me.held ≡ me.layout.ranks → old.layout ≡ me.layout → old.scheme ≡ me.scheme → IsTrue (old.serves me.here) →
+      me.sent_count ≤ 2 ^ 56 → MayPut me.here me.held old
+  may_put within all layout scheme serves few =
+      let ranks : old.layout.ranks ≡ me.layout.ranks = ap (λ (l : Shape). l.ranks) layout in
+      record {
+        all = all ∙ sym ranks;
+        within = omega (arith, within, ranks);
+        serves = serves;
+        direct = scheme ∙ direct;
+        own_alone = own_alone apply start me (old.log me.here) agrees direct;
+        few = omega (arith, few, agrees.sent_count);
+      }
+
+  module _ (held : List (List Letter)) (new : Told) (placed : List Entry) (moved : Moved me.here me.held held old new placed) where
+    pub put_out : PutOut me (record me { held = held }) (old.log me.here) (new.log me.here) placed
+    put_out = record {
+      log = moved.log;
+      puts = moved.puts;
+      rank = refl;
+      sent = moved.sent_stands;
+      ran = ran_stands apply start me (old.log me.here) agrees direct held (new.log me.here) placed moved.log moved.puts;
+    }
+
+    pub agrees_after : Agrees apply start (record me { held = held }) (new.log me.here)
+    agrees_after = agrees_still apply start me (old.log me.here) agrees direct held (new.log me.here) placed moved.log moved.puts moved.sent_stands moved.count_stands
+        (λ from to other. moved.none_more from to (own_alone apply start me (old.log me.here) agrees direct from to other))

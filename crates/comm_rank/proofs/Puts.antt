@@ -1,0 +1,225 @@
+-- A put of an own letter that goes straight to its destination.
+use Rattle.std.proofs.Common.{◌≡◌, ◌≢◌, ℕ, ◌+◌, ◌<◌, ◌^◌, Bool, true, false, not, ◌||◌, ◌&&◌, nat_eq, lt-ltb, eq-eqb, ◌==◌, None, Result, Ok, Err, List, [], ◌∷◌, ◌++◌, length, set, refl, sym, ap, ◌∙◌, subst, append-nil, append_assoc, arith, length-append, inl, inr}
+use Rattle.std.specs.Bool.{IsTrue}
+use Rattle.std.specs.Result.{IfOk, IsErr}
+use Rattle.std.proofs.lemmas.Bool.{cases_eq}
+use Rattle.std.proofs.lemmas.List.{set-set, set-get_or}
+use Rattle.msg_codec.specs.declared.letter.Letter.{Letter}
+use Rattle.ygm_route.specs.declared.scheme.Scheme.{Scheme}
+use Rattle.ygm_route.specs.declared.scheme.Scheme.TheVariants.{Direct}
+use Rattle.ygm_route.specs.Hop.{hop}
+use Rattle.ygm_route.specs.Layout.{Shape}
+use Rattle.ygm_route.proofs.Hops.{hop-direct}
+use Rattle.world_core.specs.declared.entry.Entry.{Entry}
+use Rattle.world_core.specs.declared.entry.Entry.TheVariants.{Put}
+use Rattle.world_core.specs.Local.{Local, having_put}
+use Rattle.world_core.specs.Log.{letters_of}
+use Rattle.world_core.specs.Pairs.{is_data, is_of_pair, of_pair, of_sender, own, pair_put, sent}
+use Rattle.world_core.specs.Post.{Told, SameFulls, SamePost, SameStops, SameMisses, local_at}
+use Rattle.world_core.specs.Rules.{first_broken, bad_tag, wrong_hop, not_held, too_many_sent, IsHonest}
+use Rattle.world_core.specs.Rules.Deed.{Puts}
+use Rattle.world_core.proofs.Alone.{honest_more}
+use Rattle.world_core.proofs.Batch.{pair_put-put, own-put}
+use Rattle.world_core.proofs.Lists.{all_append}
+use Rattle.world_core.proofs.Tried.{table, hop_right, held_own, not_too_many}
+use Rattle.comm_rank.specs.Held.{IsHeldFor, Loses, OthersStand, held_for}
+use Rattle.comm_rank.specs.Puts.{MayPut, Moved, PostStands, PutsOne, put_count}
+use Rattle.comm_rank.specs.Turns.{IsPut}
+
+-- ---- it breaks no rule
+
+ranks_hold : (a b c d : Bool) → a ≡ true → b ≡ true → c ≡ true → d ≡ true → (not a || not b || (not c || not d || false)) ≡ false
+ranks_hold true true true true _ _ _ _ = refl
+ranks_hold false b c d h _ _ _ = absurd cc
+ranks_hold true false c d _ h _ _ = absurd cc
+ranks_hold true true false d _ _ h _ = absurd cc
+ranks_hold true true true false _ _ _ h = absurd cc
+
+or_nothing : (b : Bool) → b ≡ false → (b || false) ≡ false
+or_nothing true h = h
+or_nothing false h = h
+
+pub unbroken_put : (me : Local) (to : ℕ) (l : Letter) → me.here < me.layout.ranks → to < me.layout.ranks → me.scheme ≡ Direct →
+    l.to ≡ to → l.from ≡ me.here → IsTrue (is_data l) → length (own me.here me.log) < 2 ^ 56 →
+    first_broken me (Puts to (l ∷ [])) ≡ None
+unbroken_put me to l here_within to_within direct is_to is_from tagged few =
+    let start : Local = having_put me to [] in
+    let to_l : l.to < me.layout.ranks = omega (arith, is_to) in
+    let from_l : l.from < me.layout.ranks = omega (arith, is_from) in
+    let leads : to ≡ hop me.layout me.scheme me.here l.to =
+    (let P : Scheme → Type 0 = λ scheme. to ≡ hop me.layout scheme me.here l.to in
+    subst P (sym direct) (sym is_to ∙ sym (hop-direct me.layout me.here l.to))) in
+    let mine : (is_data l && nat_eq l.from me.here) ≡ true = (let e : nat_eq l.from me.here ≡ true = eq-eqb _ _ is_from in rw (tagged, e) refl) in
+    sym (table me to (l ∷ []) false false false false false false
+    (ranks_hold _ _ _ _ (lt-ltb _ _ here_within) (lt-ltb _ _ to_within) (lt-ltb _ _ to_l) (lt-ltb _ _ from_l))
+    refl
+    (or_nothing (bad_tag start to l) (rw tagged refl))
+    (or_nothing (wrong_hop start to l) (hop_right start to to l tagged leads refl))
+    (or_nothing (not_held start to l) (held_own start to l tagged is_from))
+    (or_nothing (too_many_sent start to l) (not_too_many me to [] l (length (own me.here me.log)) (omega arith) mine few)))
+
+-- ---- it is of the rank's own
+
+-- where a rank holds own letters alone, the first is its own
+own_letter : (here : ℕ) (before after : List (List Letter)) (l : Letter) → ((from to : ℕ) → from ≢ here → of_pair from to (letters_of before) ≡ []) →
+    Loses before after (l ∷ []) → IsTrue (is_data l) → l.from ≡ here
+own_letter here before after l alone loses tagged =
+    elim (cases_eq l.from here) [
+      | inl e ↦ e
+      | inr other ↦
+          let pair : is_of_pair l.from l.to l ≡ true = (let a : nat_eq l.from l.from ≡ true = eq-eqb _ _ refl in let b : nat_eq l.to l.to ≡ true = eq-eqb _ _ refl in rw (tagged, a, b) refl) in
+          let one : of_pair l.from l.to (l ∷ []) ≡ l ∷ [] = rw pair refl in
+          let all : of_pair l.from l.to (l ∷ []) ++ of_pair l.from l.to (letters_of after) ≡ [] = sym (loses.pairs l.from l.to) ∙ alone l.from l.to other in
+          let none : l ∷ of_pair l.from l.to (letters_of after) ≡ [] = ap (λ xs. xs ++ of_pair l.from l.to (letters_of after)) (sym one) ∙ all in
+          absurd cc
+    ]
+
+one_of_sender : (here : ℕ) (l : Letter) → IsTrue (is_data l) → l.from ≡ here → of_sender here (l ∷ []) ≡ l ∷ []
+one_of_sender here l tagged is_from = let e : nat_eq l.from here ≡ true = eq-eqb _ _ is_from in rw (tagged, e) refl
+
+pub may_put_one : (here to n : ℕ) (before after : List (List Letter)) (told : Told) (batch : List Letter) → MayPut here before told → to < length before → n ≡ length before →
+    (l : Letter) × (batch ≡ l ∷ []) × IsHeldFor n to l → Loses before after batch → first_broken (local_at told here) (Puts to batch) ≡ None
+may_put_one here to n before after told batch may within all one loses =
+    let l = one.0 in
+    let lost : Loses before after (l ∷ []) = subst (Loses before after) one.1 loses in
+    let is_from : l.from ≡ here = own_letter here before after l may.own_alone lost one.2.tag in
+    let count : length (of_sender here (letters_of before)) ≡ 1 + length (of_sender here (letters_of after)) =
+    lost.senders here ∙ ap (λ xs. length xs + length (of_sender here (letters_of after))) (one_of_sender here l one.2.tag is_from) in
+    let P : List Letter → Type 0 = λ b. first_broken (local_at told here) (Puts to b) ≡ None in
+    subst P (sym one.1) (unbroken_put (local_at told here) to l may.within (omega (arith, may.all)) may.direct one.2.destination is_from one.2.tag (omega (arith, may.few)))
+
+-- ---- what moves
+
+pub post_stands : (here : ℕ) (old new : Told) → SamePost here old new → SameStops old new → SameMisses old new → new.halts ≡ old.halts → PostStands here old new
+post_stands here old new same stops misses halts = record { same = same; stops = stops; misses = misses; halts = halts }
+
+some_is : (a b c d : ℕ) (x y : List Letter) → (let e : Entry = Put a x in e) ≡ Put b y → (b ≡ a) × (y ≡ x)
+some_is a b c d x y h = (cc, cc)
+
+pub honest_put : (here to : ℕ) (batch : List Letter) (old new : Told) → SamePost here old new → new.log here ≡ old.log here ++ Put to batch ∷ [] →
+    first_broken (local_at old here) (Puts to batch) ≡ None → IsHonest (local_at old here) → IsHonest (local_at new here)
+honest_put here to batch old new same log ok honest =
+    let more : IsHonest (record (local_at old here) { log = old.log here ++ Put to batch ∷ [] }) =
+    honest_more (local_at old here) (Put to batch) honest (λ t ls h.
+    let both = some_is to t 0 0 batch ls h in
+    let P : ℕ → List Letter → Type 0 = λ t ls. first_broken (local_at old here) (Puts t ls) ≡ None in
+    subst (λ t. P t ls) (sym both.0) (subst (λ ls. P to ls) (sym both.1) ok)) in
+    let now : local_at new here ≡ record (local_at old here) { log = old.log here ++ Put to batch ∷ [] } = (let a = same.layout in let b = same.scheme in cc) in
+    subst IsHonest (sym now) more
+
+pub moved_one : (here to : ℕ) (batch : List Letter) (before after : List (List Letter)) (old new : Told) → first_broken (local_at old here) (Puts to batch) ≡ None →
+    Loses before after batch → length after ≡ length before → new.log here ≡ old.log here ++ Put to batch ∷ [] → PostStands here old new →
+    Moved here before after old new (Put to batch ∷ [])
+moved_one here to batch before after old new ok loses all log post =
+    let test : Letter → Bool = λ l. is_data l && (l.from == here) in
+    record {
+      log = log;
+      puts = (tt, tt);
+      honest = honest_put here to batch old new post.same log ok;
+      sent_stands = λ d.
+          ap (λ xs. pair_put here d xs ++ of_pair here d (letters_of after)) log
+          ∙ ap (λ xs. xs ++ of_pair here d (letters_of after)) (pair_put-put here d (old.log here) to batch)
+          ∙ append_assoc (pair_put here d (old.log here)) (of_pair here d batch) (of_pair here d (letters_of after))
+          ∙ ap (λ xs. pair_put here d (old.log here) ++ xs) (sym (loses.pairs here d));
+      count_stands =
+          omega (arith, ap (λ xs. length (own here xs)) log, ap length (own-put here (old.log here) to batch), length-append (own here (old.log here)) (of_sender here batch), loses.senders here);
+      none_more = λ f t none. rest_none (of_pair f t batch) (of_pair f t (letters_of after)) (sym (loses.pairs f t) ∙ none);
+      all = all;
+      post = post;
+    }
+  where
+    rest_none : (xs ys : List Letter) → xs ++ ys ≡ [] → ys ≡ []
+    rest_none [] ys h = h
+    rest_none (x ∷ xs) ys h = absurd cc
+
+pub moved_none : (here : ℕ) (before after : List (List Letter)) (old new : Told) → after ≡ before → new.log here ≡ old.log here → PostStands here old new →
+    Moved here before after old new []
+moved_none here before after old new held log post = record {
+  log = log ∙ sym (append-nil _);
+  puts = tt;
+  honest = (let now : local_at new here ≡ local_at old here = (let a = post.same.layout in let b = post.same.scheme in cc) in subst IsHonest (sym now));
+  sent_stands = λ d. ap (λ xs. sent here d xs (letters_of after)) log ∙ ap (λ xs. sent here d (old.log here) (letters_of xs)) held;
+  count_stands = omega (arith, ap (λ xs. length (own here xs)) log, ap (λ xs. length (of_sender here (letters_of xs))) held);
+  none_more = λ f t none. ap (λ xs. of_pair f t (letters_of xs)) held ∙ none;
+  all = ap length held;
+  post = post;
+}
+
+-- the letter that left is held again
+pub given_back : (to : ℕ) (old mid now : List (List Letter)) (rest batch back : List Letter) → mid ≡ set old to rest → held_for old to ≡ batch ++ held_for mid to →
+    back ≡ batch → now ≡ set mid to (back ++ held_for mid to) → now ≡ old
+given_back to old mid now rest batch back left first same again =
+    again ∙ ap (λ b. set mid to (b ++ held_for mid to)) same ∙ ap (set mid to) (sym first) ∙ ap (λ ls. set ls to (held_for old to)) left
+    ∙ set-set old to rest (held_for old to) ∙ set-get_or old to []
+
+-- ---- one after another
+
+pub same_then : (here : ℕ) (a b c : Told) → SamePost here a b → SamePost here b c → SamePost here a c
+same_then here a b c first later = record {
+  layout = later.layout ∙ first.layout;
+  scheme = later.scheme ∙ first.scheme;
+  ring = later.ring ∙ first.ring;
+  batches = later.batches ∙ first.batches;
+  serves = λ rank. later.serves rank ∙ first.serves rank;
+  other_logs = λ rank other. later.other_logs rank other ∙ first.other_logs rank other;
+}
+
+pub stands_then : (here : ℕ) (a b c : Told) → PostStands here a b → PostStands here b c → PostStands here a c
+stands_then here a b c first later = record {
+  same = same_then here a b c first.same later.same;
+  stops = λ rank. later.stops rank ∙ first.stops rank;
+  misses = λ rank. later.misses rank ∙ first.misses rank;
+  halts = later.halts ∙ first.halts;
+}
+
+pub moved_then : (here : ℕ) (a b c : List (List Letter)) (t u v : Told) (first later : List Entry) → Moved here a b t u first → Moved here b c u v later → Moved here a c t v (first ++ later)
+moved_then here a b c t u v first later m n = record {
+  log = n.log ∙ ap (λ xs. xs ++ later) m.log ∙ append_assoc (t.log here) first later;
+  puts = all_append IsPut first later m.puts n.puts;
+  honest = λ h. n.honest (m.honest h);
+  sent_stands = λ d. n.sent_stands d ∙ m.sent_stands d;
+  count_stands = n.count_stands ∙ m.count_stands;
+  none_more = λ f d h. n.none_more f d (m.none_more f d h);
+  all = n.all ∙ m.all;
+  post = stands_then here t u v m.post n.post;
+}
+
+pub same_post : (here : ℕ) (t : Told) → PostStands here t t
+same_post here t = record {
+  same = record { layout = refl; scheme = refl; ring = refl; batches = refl; serves = λ rank. refl; other_logs = λ rank other. refl };
+  stops = λ rank. refl;
+  misses = λ rank. refl;
+  halts = refl;
+}
+
+pub may_put_on : (here : ℕ) (a b : List (List Letter)) (t u : Told) (placed : List Entry) → MayPut here a t → Moved here a b t u placed → MayPut here b u
+may_put_on here a b t u placed may m =
+    let ranks : u.layout.ranks ≡ t.layout.ranks = ap (λ (l : Shape). l.ranks) m.post.same.layout in
+    record {
+      all = m.all ∙ may.all ∙ sym ranks;
+      within = omega (arith, may.within, ranks);
+      serves = m.post.same.serves here ∙ may.serves;
+      direct = m.post.same.scheme ∙ may.direct;
+      own_alone = λ f d other. m.none_more f d (may.own_alone f d other);
+      few = omega (arith, m.count_stands, may.few);
+    }
+
+pub count_of_none : (b : Bool) → b ≡ false → put_count b ≡ 0
+count_of_none true h = absurd cc
+count_of_none false h = refl
+
+pub count_of_one : (b : Bool) → b ≡ true → put_count b ≡ 1
+count_of_one true h = refl
+count_of_one false h = absurd cc
+
+pub puts_one : (b : Bool) (here to : ℕ) (before after : List (List Letter)) (old new : Told) → b ≡ true → PutsOne b here to before after old new →
+    (length (held_for before to) ≡ length (held_for after to) + 1) × SameFulls old new
+puts_one true here to before after old new h k = k
+puts_one false here to before after old new h k = absurd cc
+
+pub no_ok : {X E : Type 0} (r : Result X E) (P : X → Type 0) → IsErr r → IfOk r P
+no_ok (Ok x) P h = absurd cc
+no_ok (Err e) P h = tt
+
+pub others_then : (to : ℕ) (a b c : List (List Letter)) → OthersStand to a b → OthersStand to b c → OthersStand to a c
+others_then to a b c first later = (later.0 ∙ first.0, λ other differs. later.1 other differs ∙ first.1 other differs)

@@ -1,0 +1,309 @@
+-- A rank takes a batch, and runs its letters.
+use Rattle.std.proofs.Common.{◌≡◌, ◌≢◌, ℕ, ◌+◌, ◌<◌, ◌≤◌, ◌^◌, true, false, nat_eq, eq-eqb, ne_eqb, List, [], ◌∷◌, ◌++◌, length, drop, refl, sym, ap, ◌∙◌, subst, inl, inr, arith, append-nil, append_assoc, length-append}
+use Rattle.std.specs.Bool.{IsTrue}
+use Rattle.std.specs.List.{AllByRecursion}
+use Rattle.std.proofs.lemmas.Bool.{cases_eq}
+use Rattle.std.proofs.Math.Seq.{drop-append_seam}
+use Rattle.std.proofs.lemmas.List.Elements.{filter-append}
+use Rattle.msg_codec.specs.declared.letter.Letter.{Letter}
+use Rattle.ygm_route.specs.declared.scheme.Scheme.{Scheme}
+use Rattle.ygm_route.specs.declared.scheme.Scheme.TheVariants.{Direct}
+use Rattle.ygm_route.specs.Layout.{Shape}
+use Rattle.world_core.specs.declared.entry.Entry.{Entry}
+use Rattle.world_core.specs.declared.entry.Entry.TheVariants.{Put, Took}
+use Rattle.world_core.specs.Local.{Local, to_forward}
+use Rattle.world_core.specs.Log.{batches_put, batches_taken, letters_taken}
+use Rattle.world_core.specs.Modest.{IsModest}
+use Rattle.world_core.specs.Pairs.{arrived, for_rank, is_of_pair, of_pair, of_sender, own, pair_put}
+use Rattle.world_core.specs.Post.{MissesRise, SamePost, Told, link_in, local_at}
+use Rattle.world_core.specs.Rules.{IsHonest}
+use Rattle.world_core.proofs.Alone.{honest_more}
+use Rattle.world_core.proofs.Batch.{pair_put-took}
+use Rattle.world_core.proofs.Entries.{batches_put-took, batches_taken-took}
+use Rattle.comm_rank.specs.Agrees.{Agrees, IsSublist}
+use Rattle.comm_rank.specs.Fold.{Applies, fold_from, handed_from}
+use Rattle.comm_rank.specs.Held.{Gains}
+use Rattle.comm_rank.specs.Rank.{Rank, IsSameRank, handed, held_letters, local_of, ran_at, sent_to}
+use Rattle.comm_rank.specs.Running.{CutFrom, HasRunAll, IsFor, IsStuck, NotLookedAt, RanSome, TookFrom}
+use Rattle.comm_rank.specs.Turns.{Advanced, LookedAt, came_in}
+use Rattle.comm_rank.proofs.Arriving.{arrived-took, batch_for, for_all, forward_same, none_of_others, own-took, own_all, ran_all, ran_is, sublist_more}
+use Rattle.comm_rank.proofs.Folds.{fold-append, handed-append, rest_for}
+
+-- ---- the batch waits
+
+pub ran_waiting : {C : Type 0} (apply : Applies C) (was old new : Rank C) (waiting batch : List Letter) → was ≡ old → waiting ≡ batch →
+    HasRunAll apply (record was { waiting = waiting }) new waiting → HasRunAll apply old new batch
+ran_waiting {C} apply was old new waiting batch e f h =
+    let there : HasRunAll apply was new waiting = record { contents = h.contents; held = h.held; lawful = h.lawful; run_count = h.run_count; sent_count = h.sent_count } in
+    subst (λ (me : Rank C). HasRunAll apply me new batch) e (subst (HasRunAll apply was new) f there)
+
+-- the first of the letters of a batch ran, and the others wait
+pub record StuckIn {C : Type 0} (apply : Applies C) (old new : Rank C) (batch : List Letter) : Type 0 where
+  pub run : List Letter
+  pub given : List Letter
+  pub waits : batch ≡ run ++ new.waiting
+  pub stuck : IsStuck apply old new run given
+
+pub stuck_waiting : {C : Type 0} (apply : Applies C) (was old new : Rank C) (waiting batch : List Letter) → was ≡ old → waiting ≡ batch →
+    RanSome apply (record was { waiting = waiting }) new → StuckIn apply old new batch
+stuck_waiting {C} apply was old new waiting batch e f h =
+    let s = h.stuck in
+    let there : StuckIn apply was new waiting = record { run = h.run; given = h.given; waits = h.waits; stuck = record { begun = s.begun; held = s.held; lawful = s.lawful; run_count = s.run_count; sent_count = s.sent_count } } in
+    subst (λ (me : Rank C). StuckIn apply me new batch) e (subst (StuckIn apply was new) f there)
+
+-- ---- at a rank's place
+
+same_local : (l m : Shape) (s t : Scheme) (h k : ℕ) (log : List Entry) → l ≡ m → s ≡ t → h ≡ k →
+    (let x : Local = record { layout = l; scheme = s; here = h; log = log } in x) ≡ record { layout = m; scheme = t; here = k; log = log }
+same_local l m s t h k log a b c = cc
+
+pub modest_at : {C : Type 0} (told : Told) (me : Rank C) (layout : Shape) (scheme : Scheme) → told.layout ≡ layout → told.scheme ≡ scheme → layout ≡ me.layout → scheme ≡ me.scheme →
+    IsModest (local_at told me.here) → IsModest (local_of me (told.log me.here))
+modest_at told me layout scheme a b c d h = subst IsModest (same_local _ _ _ _ _ _ (told.log me.here) (a ∙ c) (b ∙ d) refl) h
+
+pub local_is : {C : Type 0} (old new : Rank C) (log : List Entry) → IsSameRank old new → local_of old log ≡ local_of new log
+local_is old new log same = same_local _ _ _ _ _ _ log (sym same.layout) (sym same.scheme) (sym same.here)
+
+pub honest_took : {C : Type 0} (me : Rank C) (log after : List Entry) (from : ℕ) (batch : List Letter) → after ≡ log ++ Took from batch ∷ [] → IsHonest (local_of me log) → IsHonest (local_of me after)
+honest_took me log after from batch is honest =
+    let P : List Entry → Type 0 = λ xs. IsHonest (local_of me xs) in
+    subst P (sym is) (honest_more (local_of me log) (Took from batch) honest (λ to letters e. absurd (let f : Took from batch ≡ Put to letters = e in cc)))
+
+pub taken_here : (from : ℕ) (batch : List Letter) (log after : List Entry) → after ≡ log ++ Took from batch ∷ [] → length (batches_taken from after) ≡ length (batches_taken from log) + 1
+taken_here from batch log after is =
+    let same : nat_eq from from ≡ true = eq-eqb from from refl in
+    let more : batches_taken from after ≡ batches_taken from log ++ batch ∷ [] = ap (batches_taken from) is ∙ batches_taken-took log from from batch ∙ rw same refl in
+    omega (arith, ap length more, length-append (batches_taken from log) (batch ∷ []))
+
+pub taken_other : (from other : ℕ) (batch : List Letter) (log after : List Entry) → after ≡ log ++ Took from batch ∷ [] → other ≢ from → batches_taken other after ≡ batches_taken other log
+taken_other from other batch log after is ne =
+    let apart : nat_eq from other ≡ false = ne_eqb from other (λ e. ne (sym e)) in
+    ap (batches_taken other) is ∙ batches_taken-took log from other batch ∙ rw apart (append-nil (batches_taken other log))
+
+-- ---- the rank afterwards
+
+start_fold : {C : Type 0} (apply : Applies C) (start : C → C) → ((c : C) (here ranks : ℕ) (l : Letter) → start (apply c here ranks l).0 ≡ start c) →
+    (here ranks : ℕ) (c : C) (ls : List Letter) → start (fold_from apply here ranks c ls) ≡ start c
+start_fold apply start keeps here ranks c [] = refl
+start_fold apply start keeps here ranks c (l ∷ ls) = start_fold apply start keeps here ranks (apply c here ranks l).0 ls ∙ keeps c here ranks l
+
+module _ {C : Type 0} (apply : Applies C) (old new : Rank C) (log after : List Entry) (from : ℕ) (batch : List Letter) (same : IsSameRank old new) (gained : after ≡ log ++ Took from batch ∷ [])
+    (all : AllByRecursion (IsFor old.here) batch) where
+  pub arrived_now : arrived old.here after ≡ arrived old.here log ++ batch
+  arrived_now = ap (arrived old.here) gained ∙ arrived-took old.here log from batch ∙ ap (λ xs. arrived old.here log ++ xs) (for_all old.here batch all)
+
+  pub came_batch : came_in old.here log after ≡ batch
+  came_batch = ap (drop (length (arrived old.here log))) arrived_now ∙ drop-append_seam (arrived old.here log) batch
+
+  pub arrived_there : arrived new.here after ≡ arrived old.here log ++ batch
+  arrived_there = ap (λ h. arrived h after) same.here ∙ arrived_now
+
+  sent_more : (given : List Letter) → Gains old.held new.held given → (to : ℕ) → sent_to new after to ≡ sent_to old log to ++ of_pair old.here to given
+  sent_more given gains to =
+      ap (λ h. pair_put h to after ++ of_pair h to (held_letters new)) same.here
+      ∙ ap (λ xs. xs ++ of_pair old.here to (held_letters new)) (ap (pair_put old.here to) gained ∙ pair_put-took old.here to log from batch)
+      ∙ ap (λ xs. pair_put old.here to log ++ xs) (gains.pairs old.here to)
+      ∙ sym (append_assoc (pair_put old.here to log) (of_pair old.here to (held_letters old)) (of_pair old.here to given))
+
+  one_taken : for_rank old.here (letters_taken (Took from batch ∷ [])) ≡ batch
+  one_taken = ap (for_rank old.here) (append-nil batch) ∙ for_all old.here batch all
+
+  ran_old : old.waiting ≡ [] → arrived old.here log ≡ ran_at old log
+  ran_old none = sym (ran_all old log none)
+
+  pub advanced : old.waiting ≡ [] → new.waiting ≡ [] → HasRunAll apply old new batch → Advanced apply old new log after batch
+  advanced before none ran = record {
+    ran = ran_all new after none ∙ arrived_there ∙ ap (λ xs. xs ++ batch) (ran_old before);
+    contents = ran.contents;
+    sent = sent_more (handed apply old batch) ran.held;
+    run_count = ran.run_count;
+    sent_count = ran.sent_count;
+  }
+
+  pub took_from : old.waiting ≡ [] → new.waiting ≡ [] → HasRunAll apply old new batch → TookFrom from apply old new log after 1
+  took_from before none ran = record {
+    all = record {
+      taken = Took from batch ∷ [];
+      gained = record { log = gained; takes = (tt, tt); in_order = λ i j d less within. absurd (omega (arith, less, within)) };
+      advanced = subst (Advanced apply old new log after) (sym one_taken) (advanced before none ran);
+      nothing_waits = none;
+      took_count = refl;
+    };
+    alone = (refl, tt);
+    one = omega arith;
+  }
+
+  pub cut_from : old.waiting ≡ [] → StuckIn apply old new batch → CutFrom from apply old new log after
+  cut_from before stuck =
+      let rest : AllByRecursion (IsFor new.here) new.waiting = rest_for new.here old.here batch stuck.run new.waiting stuck.waits same.here all in
+      let rest_there : for_rank old.here new.waiting ≡ new.waiting = for_all old.here new.waiting (subst (λ h. AllByRecursion (IsFor h) new.waiting) same.here rest) in
+      record {
+        cut = record {
+          taken = Took from batch ∷ [];
+          placed = [];
+          run = stuck.run;
+          given = stuck.given;
+          gained = record { log = gained ∙ sym (append-nil _); takes = (tt, tt); in_order = λ i j d less within. absurd (omega (arith, less, within)); puts = tt };
+          arrived = one_taken ∙ stuck.waits ∙ ap (λ xs. stuck.run ++ xs) (sym rest_there);
+          ran = ran_is new after (ran_at old log ++ stuck.run) new.waiting
+              (arrived_there ∙ ap (λ xs. xs ++ batch) (ran_old before) ∙ ap (λ xs. ran_at old log ++ xs) stuck.waits ∙ sym (append_assoc (ran_at old log) stuck.run new.waiting))
+              (for_all new.here new.waiting rest);
+          begun = stuck.stuck.begun;
+          sent = sent_more (handed apply old stuck.run ++ stuck.given) stuck.stuck.held;
+          run_count = stuck.stuck.run_count;
+          sent_count = stuck.stuck.sent_count;
+        };
+        none_placed = refl;
+        alone = (refl, tt);
+        one = omega arith;
+      }
+
+  module _ (start : C → C) (keeps : (c : C) (here ranks : ℕ) (l : Letter) → start (apply c here ranks l).0 ≡ start c) (agrees : Agrees apply start old log) where
+    pub agrees_now : new.waiting ≡ [] → HasRunAll apply old new batch → IsModest (local_of old after) → Agrees apply start new after
+    agrees_now none ran modest =
+        let adv = advanced agrees.nothing_waits none ran in
+        let here = old.here in
+        let n = old.layout.ranks in
+        let started : start new.contents ≡ start old.contents = ap start ran.contents ∙ start_fold apply start keeps here n old.contents batch in
+        let given = handed apply old batch in
+        let at_start : handed_from apply here n (start old.contents) (ran_at new after) ≡ handed_from apply here n (start old.contents) (ran_at old log) ++ given =
+        ap (handed_from apply here n (start old.contents)) adv.ran ∙ handed-append apply here n (start old.contents) (ran_at old log) batch
+        ∙ ap (λ c. handed_from apply here n (start old.contents) (ran_at old log) ++ handed_from apply here n c batch) (sym agrees.contents) in
+        let place : (h m : ℕ) (c : C) → h ≡ here → m ≡ n → c ≡ start old.contents → handed_from apply h m c (ran_at new after) ≡ handed_from apply here n (start old.contents) (ran_at new after) =
+        λ h m c a b d. ap (λ x. handed_from apply x m c (ran_at new after)) a ∙ ap (λ x. handed_from apply here x c (ran_at new after)) b ∙ ap (λ x. handed_from apply here n x (ran_at new after)) d in
+        let ranks : new.layout.ranks ≡ n = ap (λ (s : Shape). s.ranks) same.layout in
+        record {
+          nothing_waits = none;
+          forwards = λ f to ne.
+              let other : f ≢ here = λ e. ne (e ∙ sym same.here) in
+              ran.held.pairs f to ∙ ap (λ xs. of_pair f to (held_letters old) ++ xs) (none_of_others here f to given other ran.lawful) ∙ append-nil (of_pair f to (held_letters old))
+              ∙ agrees.forwards f to other ∙ sym (forward_same (local_of old log) from batch all f to)
+              ∙ ap (λ (me : Local). to_forward me f to) (ap (local_of old) (sym gained) ∙ local_is old new after same);
+          sent_count =
+              let put : length (own new.here after) ≡ length (own here log) = ap (λ h. length (own h after)) same.here ∙ ap (λ xs. length (own here xs)) gained ∙ ap length (own-took here log from batch) in
+              let held : length (of_sender new.here (held_letters new)) ≡ length (of_sender here (held_letters new)) = ap (λ h. length (of_sender h (held_letters new))) same.here in
+              omega (arith, put, held, ran.sent_count, agrees.sent_count, ran.held.senders here, ap length (own_all here given ran.lawful));
+          run_count = omega (arith, ran.run_count, agrees.run_count, ap length adv.ran, length-append (ran_at old log) batch);
+          contents =
+              ran.contents ∙ ap (λ c. fold_from apply here n c batch) agrees.contents ∙ sym (fold-append apply here n (start old.contents) (ran_at old log) batch)
+              ∙ ap (fold_from apply here n (start old.contents)) (sym adv.ran)
+              ∙ ap (λ c. fold_from apply here n c (ran_at new after)) (sym started)
+              ∙ ap (λ m. fold_from apply here m (start new.contents) (ran_at new after)) (sym ranks)
+              ∙ ap (λ h. fold_from apply h new.layout.ranks (start new.contents) (ran_at new after)) (sym same.here);
+          answered = λ to.
+              let gave : of_pair new.here to (handed_from apply new.here new.layout.ranks (start new.contents) (ran_at new after))
+              ≡ of_pair here to (handed_from apply here n (start old.contents) (ran_at old log)) ++ of_pair here to given =
+              ap (λ h. of_pair h to (handed_from apply new.here new.layout.ranks (start new.contents) (ran_at new after))) same.here
+              ∙ ap (of_pair here to) (place new.here new.layout.ranks (start new.contents) same.here ranks started ∙ at_start)
+              ∙ filter-append (is_of_pair here to) (handed_from apply here n (start old.contents) (ran_at old log)) given in
+              let P : List Letter → Type 0 = λ xs. IsSublist xs (sent_to new after to) in
+              let Q : List Letter → Type 0 = λ xs. IsSublist (of_pair here to (handed_from apply here n (start old.contents) (ran_at old log)) ++ of_pair here to given) xs in
+              subst P (sym gave) (subst Q (sym (adv.sent to)) (sublist_more _ (sent_to old log to) (of_pair here to given) (agrees.answered to)));
+          modest = subst IsModest (local_is old new after same) modest;
+        }
+
+-- no batch was there
+pub took_none : {C : Type 0} (from : ℕ) (apply : Applies C) (me : Rank C) (log after : List Entry) → after ≡ log → me.waiting ≡ [] → TookFrom from apply me me log after 0
+took_none {C} from apply me log after is none =
+    let P : List Entry → Type 0 = λ xs. TookFrom from apply me me log xs 0 in
+    subst P (sym is) (record {
+      all = record {
+        taken = [];
+        gained = record { log = sym (append-nil log); takes = tt; in_order = λ i j d less within. absurd (omega (arith, less, within)) };
+        advanced = record { ran = sym (append-nil _); contents = refl; sent = λ to. sym (append-nil _); run_count = omega arith; sent_count = omega arith };
+        nothing_waits = none;
+        took_count = refl;
+      };
+      alone = tt;
+      one = omega arith;
+    })
+
+-- ---- what the post gave
+
+pub record Arrival {C : Type 0} (old : Rank C) (before told : Told) (from : ℕ) (batch : List Letter) : Type 0 where
+  pub gained : told.log old.here ≡ before.log old.here ++ Took from batch ∷ []
+  pub modest : IsModest (local_of old (told.log old.here))
+  pub all : AllByRecursion (IsFor old.here) batch
+
+pub arrival : {C : Type 0} (was old : Rank C) (before told : Told) (from : ℕ) (batch : List Letter) → was ≡ old → told.layout ≡ before.layout → told.scheme ≡ before.scheme →
+    before.layout ≡ old.layout → before.scheme ≡ old.scheme → was.scheme ≡ Direct → from < old.layout.ranks →
+    told.log was.here ≡ before.log was.here ++ Took from batch ∷ [] → IsModest (local_at told was.here) → Arrival old before told from batch
+arrival {C} was old before told from batch e layout scheme old_layout old_scheme direct sender log modest =
+    let here : was.here ≡ old.here = ap (λ (me : Rank C). me.here) e in
+    let P : ℕ → Type 0 = λ h. told.log h ≡ before.log h ++ Took from batch ∷ [] in
+    let M : ℕ → Type 0 = λ h. IsModest (local_at told h) in
+    let gained : P old.here = subst P here log in
+    let at_old : IsModest (local_of old (told.log old.here)) = modest_at told old before.layout before.scheme layout scheme old_layout old_scheme (subst M here modest) in
+    let N : List Entry → Type 0 = λ xs. IsModest (local_of old xs) in
+    record {
+      gained = gained;
+      modest = at_old;
+      all = batch_for (local_of old (before.log old.here)) from batch (omega (arith, sender)) (ap (λ (me : Rank C). me.scheme) (sym e) ∙ direct) (subst N gained at_old);
+    }
+
+pub few_run : {C : Type 0} (apply : Applies C) (start : C → C) (was old : Rank C) (before told : Told) (from : ℕ) (batch waiting : List Letter) → was ≡ old → waiting ≡ batch → Arrival old before told from batch →
+    Agrees apply start old (before.log old.here) → was.run_count + length waiting ≤ 2 ^ 62
+few_run {C} apply start was old before told from batch waiting e f a agrees =
+    let there : arrived old.here (told.log old.here) ≡ arrived old.here (before.log old.here) ++ batch =
+    ap (arrived old.here) a.gained ∙ arrived-took old.here (before.log old.here) from batch ∙ ap (λ xs. arrived old.here (before.log old.here) ++ xs) (for_all old.here batch a.all) in
+    let count : was.run_count ≡ old.run_count = ap (λ (me : Rank C). me.run_count) e in
+    omega (arith, count, ap length f, agrees.run_count, ap length (ran_all old (before.log old.here) agrees.nothing_waits), ap length there, length-append (arrived old.here (before.log old.here)) batch, a.modest.few)
+
+pub waiting_for : {C : Type 0} (was old : Rank C) (batch waiting : List Letter) → was ≡ old → waiting ≡ batch → AllByRecursion (IsFor old.here) batch → AllByRecursion (IsFor was.here) waiting
+waiting_for {C} was old batch waiting e f all =
+    subst (λ h. AllByRecursion (IsFor h) waiting) (sym (ap (λ (me : Rank C). me.here) e)) (subst (AllByRecursion (IsFor old.here)) (sym f) all)
+
+pub same_from : {C : Type 0} (was old new : Rank C) (waiting : List Letter) → was ≡ old → IsSameRank (record was { waiting = waiting }) new → IsSameRank old new
+same_from {C} was old new waiting e same =
+    let there : IsSameRank was new = record { layout = same.layout; scheme = same.scheme; here = same.here; most = same.most } in
+    subst (λ (me : Rank C). IsSameRank me new) e there
+
+-- the count of what was given, of the batch and of what came
+pub handed_came : {C : Type 0} (apply : Applies C) (was old : Rank C) (waiting came : List Letter) → was ≡ old → waiting ≡ came →
+    was.sent_count + length (handed apply (record was { waiting = waiting }) waiting) ≡ old.sent_count + length (handed apply old came)
+handed_came {C} apply was old waiting came e f =
+    ap (λ (me : Rank C). me.sent_count + length (handed apply me waiting)) e ∙ ap (λ xs. old.sent_count + length (handed apply old xs)) f
+
+-- honesty, as the same rank sees it
+pub honest_on : {C : Type 0} (me old : Rank C) (log after : ℕ → List Entry) → IsSameRank old me → (IsHonest (local_of me (log me.here)) → IsHonest (local_of me (after me.here))) →
+    IsHonest (local_of old (log old.here)) → IsHonest (local_of old (after old.here))
+honest_on me old log after same keeps h =
+    let P : (ℕ → List Entry) → ℕ → Type 0 = λ f k. IsHonest (local_of old (f k)) in
+    let to_me : IsHonest (local_of me (log me.here)) = subst IsHonest (local_is old me (log me.here) same) (subst (P log) (sym same.here) h) in
+    subst (P after) same.here (subst IsHonest (sym (local_is old me (after me.here) same)) (keeps to_me))
+
+-- ---- the links of the others
+
+pub link_stands : (here from other : ℕ) (batch : List Letter) (old new : Told) → new.log here ≡ old.log here ++ Took from batch ∷ [] → other ≢ from → SamePost here old new → link_in new other here ≡ link_in old other here
+link_stands here from other batch old new gained ne same =
+    let taken : batches_taken other (new.log here) ≡ batches_taken other (old.log here) = taken_other from other batch (old.log here) (new.log here) gained ne in
+    let put : batches_put here (new.log other) ≡ batches_put here (old.log other) = elim (cases_eq other here) [
+      | inl e ↦
+          let P : ℕ → Type 0 = λ r. batches_put here (new.log r) ≡ batches_put here (old.log r) in
+          subst P (sym e) (ap (batches_put here) gained ∙ batches_put-took (old.log here) from here batch)
+      | inr apart ↦ ap (batches_put here) (same.other_logs other apart)
+    ] in
+    ap (λ bs. drop (length bs) (batches_put here (new.log other))) taken ∙ ap (λ bs. drop (length (batches_taken other (old.log here))) bs) put
+
+pub same_log : (was here : ℕ) (old new : Told) → was ≡ here → SamePost was old new → SamePost here old new
+same_log was here old new e same = subst (λ h. SamePost h old new) e same
+
+pub not_looked_none : (was here other : ℕ) (old new : Told) → was ≡ here → new.log was ≡ old.log was → SamePost was old new → new.misses other ≡ old.misses other → NotLookedAt here other old new
+not_looked_none was here other old new e log same misses =
+    let P : ℕ → Type 0 = λ h. new.log h ≡ old.log h in
+    let now : P here = subst P e log in
+    let put : new.log other ≡ old.log other = elim (cases_eq other here) [
+      | inl f ↦ subst P (sym f) now
+      | inr apart ↦ same.other_logs other (λ f. apart (f ∙ e))
+    ] in
+    record {
+      taken = ap (batches_taken other) now;
+      misses = misses;
+      serves = same.serves other;
+      link = ap (λ log. drop (length (batches_taken other log)) (batches_put here (new.log other))) now ∙ ap (λ log. drop (length (batches_taken other (old.log here))) (batches_put here log)) put;
+    }
+
+pub looked_none : (was here from : ℕ) (old new : Told) → was ≡ here → MissesRise from old new → (IsTrue (old.serves from) → link_in old from was ≡ []) → LookedAt here from old new
+looked_none was here from old new e misses none =
+    let P : ℕ → Type 0 = λ h. link_in old from h ≡ [] in
+    inr (misses.rose, λ s. subst P e (none s))

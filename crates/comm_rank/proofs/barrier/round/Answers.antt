@@ -1,0 +1,64 @@
+use Rattle.std.proofs.Common.{◌≡◌, ◌||◌, ◌+◌, ◌∙◌, ℕ, Bool, refl, subst, arith, rules}
+use Rattle.std.proofs.lemmas.Result.{IfErr-weaker}
+use Rattle.comm_rank.specs.Settled.{RoundMoves}
+use Rattle.comm_rank.proofs.Advancing.{failed_later, has_advanced_more, has_advanced_none, same_links_more, same_links_none, same_ranks_more, same_ranks_none}
+use Rattle.comm_rank.proofs.Rounds.{or_else, or_then, round_begins, turn_more}
+use Rattle.comm_rank.proofs.barrier.round.Goals as goal
+use Rattle.comm_rank.proofs.barrier.round.Goals.{then-moved, else-moved}
+
+pub loop-rank-init : goal.loop-rank-init
+loop-rank-init g c = record {
+  moves = round_begins c.args.comms.now c.args.links.now;
+  advanced = has_advanced_none g.H.Handler.apply c.args.comms.now c.args.links.now;
+  ranks = c.requires.ranks;
+  halts = refl;
+  same_ranks = same_ranks_none c.args.comms.now;
+  all = refl;
+  same_links = same_links_none c.args.links.now;
+}
+
+pub returns-in_err-more-clause-failed : goal.returns-in_err-more-clause-failed
+returns-in_err-more-clause-failed g c =
+    let inv = c.loop-rank.invariant in
+    IfErr-weaker c.from_residual.result _ _
+    (failed_later g.H.Handler.apply c.args.comms.now c.loop-rank.comms c.turn_of.new.comms c.args.links.now c.loop-rank.links c.turn_of.new.links inv.same_ranks inv.all inv.advanced) (search rules)
+
+pub returns-in_err-more-clause-same_ranks : goal.returns-in_err-more-clause-same_ranks
+returns-in_err-more-clause-same_ranks g c =
+    let inv = c.loop-rank.invariant in
+    same_ranks_more g.H.Handler.apply c.args.comms.now c.loop-rank.comms c.turn_of.new.comms c.args.links.now c.loop-rank.links c.turn_of.new.links inv.same_ranks inv.all c.turn_of.ensures.same_ranks
+
+pub loop-rank-preserved : goal.loop-rank-preserved
+loop-rank-preserved g c =
+    let inv = c.loop-rank.invariant in
+    let e = c.in_ok-more.ensures in
+    let rank = c.loop-rank.rank in
+    let moved = c.loop-rank.moved in
+    let more = c.in_ok-more.more in
+    let now = c.if-moved.moved in
+    let apply = g.H.Handler.apply in
+    let a = c.args.comms.now in
+    let b = c.loop-rank.comms in
+    let d = c.turn_of.new.comms in
+    let x = c.args.links.now in
+    let y = c.loop-rank.links in
+    let z = c.turn_of.new.links in
+    let is : (moved || more) ≡ now = elim c.if-moved.branch [
+      | then-moved w ↦ or_then moved more now w.if-moved.true (w.moved-is ∙ w.if-moved.true)
+      | else-moved w ↦ or_else moved more now w.if-moved.false w.moved-is
+    ] in
+    let P : Bool → Type 0 = λ t. RoundMoves (rank + 1) a d x z t in
+    record {
+      moves = subst P is (turn_more rank a b d x y z moved more e.same_links.layout inv.moves e.moves (omega (arith, c.loop-rank-test.true, e.ranks.all, e.all, inv.all)));
+      advanced = λ other. has_advanced_more apply a b d x y z inv.same_ranks inv.all other (inv.advanced other) (e.advanced other);
+      ranks = e.ranks;
+      halts = e.halts_stand ∙ inv.halts;
+      same_ranks = same_ranks_more apply a b d x y z inv.same_ranks inv.all e.same_ranks;
+      all = e.all ∙ inv.all;
+      same_links = same_links_more x y z inv.same_links e.same_links;
+    }
+
+pub returns-clause-moves : goal.returns-clause-moves
+returns-clause-moves g c =
+    let P : ℕ → Type 0 = λ n. RoundMoves n c.args.comms.now c.loop-rank.comms c.args.links.now c.loop-rank.links c.loop-rank.moved in
+    subst P (omega (arith, c.loop-rank-test.false, c.loop-rank.auto.rank-end)) c.loop-rank.invariant.moves

@@ -1,0 +1,15 @@
+use Rattle.std.proofs.Common.{◌≡◌, ℕ, length}
+use Rattle.comm_rank.specs.Settled.{AreRanks, AreSameLinks, AreSameRanks, HasAdvanced, RoundMoves}
+use Rattle.comm_rank.proofs.barrier.round.Given as goal
+
+-- the first ranks had their turn
+abbrev pub invariant-loop-rank : goal.invariant-loop-rank
+invariant-loop-rank g l = record {
+  moves : RoundMoves l.rank l.fn.comms l.comms l.fn.links l.links l.moved;
+  advanced : (other : ℕ) → HasAdvanced g.H.Handler.apply l.fn.comms l.comms l.fn.links l.links other;
+  ranks : AreRanks g.H.Handler.apply g.H.Handler.start l.comms l.links;
+  halts : l.links.halts ≡ l.fn.links.halts;
+  same_ranks : AreSameRanks l.fn.comms l.comms;
+  all : length l.comms ≡ length l.fn.comms;
+  same_links : AreSameLinks l.fn.links l.links;
+}

@@ -1,0 +1,67 @@
+use Rattle.std.proofs.Common.{get_or, sym, rules}
+use Rattle.std.proofs.lemmas.Result.{IfErr-weaker}
+use Rattle.comm_rank.proofs.Moving.{advanced_after, ranks_after, same_ranks_after, turn_moves}
+use Rattle.comm_rank.proofs.PlainTurns.{agrees_here, direct_before, failed_at, few_sent, four_faults, mine, serves, stop_raised, there, turn_at}
+use Rattle.comm_rank.proofs.barrier.turn_of.Goals as goal
+
+pub turn-requires-clause-going : goal.turn-requires-clause-going
+turn-requires-clause-going g c = (mine g.H.Handler.apply g.H.Handler.start c.args.comms.now c.args.links.now c.args.rank c.requires.ranks c.requires.within c.index-comms-rank.result).going
+
+pub turn-requires-clause-serves : goal.turn-requires-clause-serves
+turn-requires-clause-serves g c = serves g.H.Handler.apply g.H.Handler.start c.args.comms.now c.args.links.now c.args.rank c.requires.ranks c.requires.within c.index-comms-rank.result
+
+pub turn-requires-clause-layout : goal.turn-requires-clause-layout
+turn-requires-clause-layout g c = sym (mine g.H.Handler.apply g.H.Handler.start c.args.comms.now c.args.links.now c.args.rank c.requires.ranks c.requires.within c.index-comms-rank.result).layout
+
+pub turn-requires-clause-scheme : goal.turn-requires-clause-scheme
+turn-requires-clause-scheme g c = sym (mine g.H.Handler.apply g.H.Handler.start c.args.comms.now c.args.links.now c.args.rank c.requires.ranks c.requires.within c.index-comms-rank.result).scheme
+
+pub turn-requires-clause-agrees : goal.turn-requires-clause-agrees
+turn-requires-clause-agrees g c = agrees_here g.H.Handler.apply g.H.Handler.start c.args.comms.now c.args.links.now c.args.rank c.requires.ranks c.requires.within c.index-comms-rank.result
+
+pub returns-clause-same_ranks : goal.returns-clause-same_ranks
+returns-clause-same_ranks g c =
+    same_ranks_after g.H.Handler.apply g.H.Handler.start c.args.comms.now c.args.links.now c.turn.new.post c.args.rank _ c.turn.new.self
+    (there g.H.Handler.apply g.H.Handler.start c.args.comms.now c.args.links.now c.args.rank c.requires.ranks c.requires.within c.index-comms-rank.result) c.requires.ranks c.turn.ensures.same_rank
+
+pub returns-in_err-turn-clause-same_ranks : goal.returns-in_err-turn-clause-same_ranks
+returns-in_err-turn-clause-same_ranks g c =
+    same_ranks_after g.H.Handler.apply g.H.Handler.start c.args.comms.now c.args.links.now c.turn.new.post c.args.rank _ c.turn.new.self
+    (there g.H.Handler.apply g.H.Handler.start c.args.comms.now c.args.links.now c.args.rank c.requires.ranks c.requires.within c.index-comms-rank.result) c.requires.ranks c.turn.ensures.same_rank
+
+pub returns-in_err-turn-clause-failed : goal.returns-in_err-turn-clause-failed
+returns-in_err-turn-clause-failed g c =
+    IfErr-weaker c.from_residual.result _ _ (λ fault h. failed_at g.H.Handler.apply g.H.Handler.start c.args.comms.now c.args.links.now c.turn.new.post c.args.rank _ c.turn.new.self c.requires.within
+    (there g.H.Handler.apply g.H.Handler.start c.args.comms.now c.args.links.now c.args.rank c.requires.ranks c.requires.within c.index-comms-rank.result) c.requires.ranks c.turn.ensures.same_rank c.turn.ensures.same_post fault h.0 h.1 h.2 h.3)
+    (four_faults c.from_residual.result _ _ _ _ (search rules) (search rules) (search rules) (search rules))
+
+pub returns-in_err-turn-clause-raises_the_stop : goal.returns-in_err-turn-clause-raises_the_stop
+returns-in_err-turn-clause-raises_the_stop g c =
+    IfErr-weaker c.from_residual.result _ _ (stop_raised c.turn.new.post (get_or c.args.comms.now c.args.rank c.index-comms-rank.result).here) (search rules)
+
+pub returns-clause-advanced : goal.returns-clause-advanced
+returns-clause-advanced g c =
+    let at = mine g.H.Handler.apply g.H.Handler.start c.args.comms.now c.args.links.now c.args.rank c.requires.ranks c.requires.within c.index-comms-rank.result in
+    let e = c.in_ok-turn.ensures in
+    advanced_after g.H.Handler.apply g.H.Handler.start c.args.comms.now c.args.links.now c.turn.new.post c.args.rank _ c.turn.new.self
+    (there g.H.Handler.apply g.H.Handler.start c.args.comms.now c.args.links.now c.args.rank c.requires.ranks c.requires.within c.index-comms-rank.result) c.requires.ranks e.same_rank c.in_ok-turn.turn
+    (turn_at g.H.Handler.apply g.H.Handler.start _ c.turn.new.self c.args.links.now c.turn.new.post c.in_ok-turn.turn c.args.rank at.here e.turned e.agrees e.takes_from_each e.puts_to_each e.same_post)
+
+pub returns-clause-ranks : goal.returns-clause-ranks
+returns-clause-ranks g c =
+    let at = mine g.H.Handler.apply g.H.Handler.start c.args.comms.now c.args.links.now c.args.rank c.requires.ranks c.requires.within c.index-comms-rank.result in
+    let e = c.in_ok-turn.ensures in
+    ranks_after g.H.Handler.apply g.H.Handler.start c.args.comms.now c.args.links.now c.turn.new.post c.args.rank _ c.turn.new.self
+    (there g.H.Handler.apply g.H.Handler.start c.args.comms.now c.args.links.now c.args.rank c.requires.ranks c.requires.within c.index-comms-rank.result) c.requires.ranks e.same_rank c.in_ok-turn.turn
+    (turn_at g.H.Handler.apply g.H.Handler.start _ c.turn.new.self c.args.links.now c.turn.new.post c.in_ok-turn.turn c.args.rank at.here e.turned e.agrees e.takes_from_each e.puts_to_each e.same_post) e.stopped
+
+pub returns-clause-moves : goal.returns-clause-moves
+returns-clause-moves g c =
+    let at = mine g.H.Handler.apply g.H.Handler.start c.args.comms.now c.args.links.now c.args.rank c.requires.ranks c.requires.within c.index-comms-rank.result in
+    let e = c.in_ok-turn.ensures in
+    turn_moves g.H.Handler.apply g.H.Handler.start c.args.comms.now c.args.links.now c.turn.new.post c.args.rank _ c.turn.new.self
+    (there g.H.Handler.apply g.H.Handler.start c.args.comms.now c.args.links.now c.args.rank c.requires.ranks c.requires.within c.index-comms-rank.result) c.requires.ranks e.same_rank c.in_ok-turn.turn
+    (turn_at g.H.Handler.apply g.H.Handler.start _ c.turn.new.self c.args.links.now c.turn.new.post c.in_ok-turn.turn c.args.rank at.here e.turned e.agrees e.takes_from_each e.puts_to_each e.same_post)
+    c.is_sound.ensures c.is_sound-2.ensures (direct_before c.args.comms.now c.args.rank _ c.turn.new.self c.index-comms-rank-2.result c.requires.within e.same_rank c.holds.ensures.direct)
+    (few_sent c.args.comms.now c.args.rank c.turn.new.self c.index-comms-rank-2.result c.requires.within c.holds.ensures.within)
+    c.has_moved.result c.has_moved.ensures

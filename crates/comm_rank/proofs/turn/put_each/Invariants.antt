@@ -1,0 +1,18 @@
+use Rattle.std.proofs.Common.{◌≡◌, ◌≤◌, ◌<◌, ◌-◌, ◌^◌, ℕ, List, length, min}
+use Rattle.world_core.specs.declared.entry.Entry.{Entry}
+use Rattle.comm_rank.specs.Puts.{Moved, NoneOrFull}
+use Rattle.comm_rank.specs.Turns.{FirstFull}
+use Rattle.comm_rank.proofs.Each.{Below}
+use Rattle.comm_rank.proofs.turn.put_each.Given as goal
+
+-- what is held for the first ranks moved, as far as their links weren't full
+abbrev pub invariant-loop-to : goal.invariant-loop-to
+invariant-loop-to g l = record {
+  placed : List Entry;
+  moved : Moved l.here l.fn.held.lists l.held.lists (g.P.Post.told l.fn.post) (g.P.Post.told l.post) placed;
+  count : l.put ≡ min (length placed) (2 ^ 64 - 1);
+  done : (d : ℕ) → d < l.to → NoneOrFull l.here d l.held.lists (g.P.Post.told l.fn.post) (g.P.Post.told l.post);
+  later : (d : ℕ) → l.to ≤ d → (g.P.Post.told l.post).fulls d ≡ (g.P.Post.told l.fn.post).fulls d;
+  first : FirstFull l.held.lists (g.P.Post.told l.fn.post) (g.P.Post.told l.post) l.full;
+  below : Below l.to l.full;
+}

@@ -1,0 +1,26 @@
+-- When a rank and its log belong together.
+use Rattle.std.specs.Prelude.{◌≡◌, ◌≢◌, ◌⊎◌, ℕ, ◌+◌, List, [], ◌∷◌, length, ⊤}
+use Rattle.world_core.specs.declared.entry.Entry.{Entry}
+use Rattle.world_core.specs.Local.{to_forward}
+use Rattle.world_core.specs.Modest.{IsModest}
+use Rattle.world_core.specs.Pairs.{of_pair, of_sender, own}
+use Rattle.comm_rank.specs.Fold.{Applies, fold_from, handed_from}
+use Rattle.comm_rank.specs.Rank.{Rank, local_of, held_letters, sent_to, ran_at}
+
+-- a list is another with some of its elements left out
+abbrev pub IsSublist : {X : Type 0} → List X → List X → Type 0
+IsSublist [] whole = ⊤
+IsSublist (x ∷ part) [] = ⊥
+IsSublist (x ∷ part) (y ∷ whole) = ((x ≡ y) × IsSublist part whole) ⊎ IsSublist (x ∷ part) whole
+
+-- A rank agrees with a log: all that came has run, what it holds of others is what it has to forward, its counts
+-- are those of the letters that it sent and ran, its contents are the fold of what ran, all that its handler gave
+-- was sent, and the log is modest.
+pub record Agrees {C : Type 0} (apply : Applies C) (start : C → C) (me : Rank C) (log : List Entry) : Type 0 where
+  pub nothing_waits : me.waiting ≡ []
+  pub forwards : (from to : ℕ) → from ≢ me.here → of_pair from to (held_letters me) ≡ to_forward (local_of me log) from to
+  pub sent_count : me.sent_count ≡ length (own me.here log) + length (of_sender me.here (held_letters me))
+  pub run_count : me.run_count ≡ length (ran_at me log)
+  pub contents : me.contents ≡ fold_from apply me.here me.layout.ranks (start me.contents) (ran_at me log)
+  pub answered : (to : ℕ) → IsSublist (of_pair me.here to (handed_from apply me.here me.layout.ranks (start me.contents) (ran_at me log))) (sent_to me log to)
+  pub modest : IsModest (local_of me log)

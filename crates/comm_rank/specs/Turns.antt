@@ -1,0 +1,97 @@
+-- What a turn of a rank does.
+use Rattle.std.specs.Prelude.{◌≡◌, ◌⊎◌, ◌≢◌, ℕ, ◌+◌, ◌-◌, ◌^◌, ◌<◌, IsTrue, List, [], ◌++◌, Option, Some, None, drop, length, min, slice_get, take, ⊤}
+use Rattle.std.specs.List.{AllByRecursion, AllPairs}
+use Rattle.msg_codec.specs.declared.letter.Letter.{Letter}
+use Rattle.world_core.specs.declared.entry.Entry.{Entry}
+use Rattle.world_core.specs.declared.entry.Entry.TheVariants.{Put, Took}
+use Rattle.world_core.specs.Log.{batches_taken, letters_taken}
+use Rattle.world_core.specs.Pairs.{arrived, for_rank, of_pair}
+use Rattle.world_core.specs.Post.{Told, Rose, SameFulls, link_in}
+use Rattle.comm_rank.specs.declared.turn.Turn.{Turn}
+use Rattle.comm_rank.specs.Fold.{Applies, given_by}
+use Rattle.comm_rank.specs.Held.{held_for}
+use Rattle.comm_rank.specs.Rank.{Rank, sent_to, ran_at, folded, handed}
+
+-- ---- what its log gains
+
+abbrev pub IsTake : Entry → Type 0
+IsTake (Put to letters) = ⊥
+IsTake (Took from letters) = ⊤
+
+abbrev pub IsPut : Entry → Type 0
+IsPut (Put to letters) = ⊤
+IsPut (Took from letters) = ⊥
+
+-- the rank at the other end of the link
+abbrev pub other_end : Entry → ℕ
+other_end (Put to letters) = to
+other_end (Took from letters) = from
+
+-- The log gained takes, at most one from each rank and in the order of ranks, and then puts.
+pub record Gained (before after taken placed : List Entry) : Type 0 where
+  pub log : after ≡ before ++ taken ++ placed
+  pub takes : AllByRecursion IsTake taken
+  pub in_order : AllPairs (λ one later. other_end one < other_end later) taken
+  pub puts : AllByRecursion IsPut placed
+
+-- ---- what it ran and sent
+
+-- These letters ran at a rank, and nothing else: they are the last that ran there, its contents are folded by
+-- them, and what its handler gave is the last that it sent, all of it and in order.
+pub record Advanced {C : Type 0} (apply : Applies C) (old new : Rank C) (before after : List Entry) (run : List Letter) : Type 0 where
+  pub ran : ran_at new after ≡ ran_at old before ++ run
+  pub contents : new.contents ≡ folded apply old run
+  pub sent : (to : ℕ) → sent_to new after to ≡ sent_to old before to ++ of_pair old.here to (handed apply old run)
+  pub run_count : new.run_count ≡ old.run_count + length run
+  pub sent_count : new.sent_count ≡ old.sent_count + length (handed apply old run)
+
+-- the letters for a rank that came meanwhile
+abbrev pub came_in : ℕ → List Entry → List Entry → List Letter
+came_in here before after = drop (length (arrived here before)) (arrived here after)
+
+-- A turn that ended: all letters for the rank in the batches that it took ran.
+pub record Turned {C : Type 0} (apply : Applies C) (old new : Rank C) (before after : List Entry) (turn : Turn) : Type 0 where
+  pub taken : List Entry
+  pub placed : List Entry
+  pub gained : Gained before after taken placed
+  pub advanced : Advanced apply old new before after (for_rank old.here (letters_taken taken))
+  pub nothing_waits : new.waiting ≡ []
+  pub took : turn.took ≡ length taken
+  pub put : turn.put ≡ min (length placed) (2 ^ 64 - 1)
+
+-- The letter that waits first had not begun to run; or its handler ran, and only the first of what that gave was
+-- sent.
+abbrev pub HasBegun : {C : Type 0} → Applies C → ℕ → ℕ → C → C → List Letter → List Letter → Type 0
+HasBegun apply here ranks before after waiting given =
+    ((after ≡ before) × (given ≡ []))
+    ⊎ ((l : Letter) × (k : ℕ) × (slice_get waiting 0 ≡ Some l) × (after ≡ (apply before here ranks l).0)
+    × (k < length (given_by apply here ranks before l)) × (given ≡ take k (given_by apply here ranks before l)))
+
+-- A turn that was cut off: the first of the letters for the rank in the batches that it took ran, and the others
+-- wait.
+pub record CutOff {C : Type 0} (apply : Applies C) (old new : Rank C) (before after : List Entry) : Type 0 where
+  pub taken : List Entry
+  pub placed : List Entry
+  pub run : List Letter
+  pub given : List Letter
+  pub gained : Gained before after taken placed
+  pub arrived : for_rank old.here (letters_taken taken) ≡ run ++ for_rank old.here new.waiting
+  pub ran : ran_at new after ≡ ran_at old before ++ run
+  pub begun : HasBegun apply old.here old.layout.ranks (folded apply old run) new.contents new.waiting given
+  pub sent : (to : ℕ) → sent_to new after to ≡ sent_to old before to ++ of_pair old.here to (handed apply old run ++ given)
+  pub run_count : new.run_count ≡ old.run_count + length run
+  pub sent_count : new.sent_count ≡ old.sent_count + length (handed apply old run) + length given
+
+-- ---- what it found at the post
+
+-- it took a batch from the rank, or found nothing there: where the post serves that rank too, the link was empty
+abbrev pub LookedAt : ℕ → ℕ → Told → Told → Type 0
+LookedAt here from old new =
+    (length (batches_taken from (new.log here)) ≡ length (batches_taken from (old.log here)) + 1)
+    ⊎ (Rose (old.misses from) (new.misses from) × (IsTrue (old.serves from) → link_in old from here ≡ []))
+
+-- A full link was found, first to this rank; or none was.
+abbrev pub FirstFull : List (List Letter) → Told → Told → Option ℕ → Type 0
+FirstFull held old new None = SameFulls old new
+FirstFull held old new (Some to) =
+    Rose (old.fulls to) (new.fulls to) × (held_for held to ≢ []) × ((lower : ℕ) → lower < to → new.fulls lower ≡ old.fulls lower)
