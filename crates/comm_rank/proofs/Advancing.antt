@@ -3,15 +3,18 @@ use Rattle.std.proofs.Common.{◌≡◌, ℕ, Option, Some, List, [], ◌++◌, 
 use Rattle.std.proofs.lemmas.Option.{slice_get-get_or, slice_get_within}
 use Rattle.world_core.specs.declared.entry.Entry.{Entry}
 use Rattle.world_core.specs.Pairs.{for_rank}
-use Rattle.world_core.specs.Plain.{Plain}
+use Rattle.world_core.specs.Plain.{Plain, told_by}
+use Rattle.world_core.specs.Post.{SameStops}
 use Rattle.world_core.specs.World.{log_of}
+use Rattle.world_core.proofs.Lists.{prefix_trans}
 use Rattle.comm_rank.specs.Fault.{halted}
 use Rattle.comm_rank.specs.Fold.{Applies}
 use Rattle.comm_rank.specs.Rank.{Rank, IsSameRank}
-use Rattle.comm_rank.specs.Settled.{AreSameLinks, AreSameRanks, FailedAt, HasAdvanced}
+use Rattle.comm_rank.specs.Settled.{AreSameLinks, AreSameRanks, FailedAt, HasAdvanced, LogsGrow}
 use Rattle.comm_rank.specs.Turns.{Advanced, CutOff}
 use Rattle.comm_rank.specs.declared.fault.CommFault.{CommFault}
 use Rattle.comm_rank.proofs.Joining.{advanced_more}
+use Rattle.comm_rank.proofs.Stops.{if_stopped}
 
 some_is : {X : Type 0} (x y : X) → (let o : Option X = Some x in o) ≡ Some y → x ≡ y
 some_is x y h = cc
@@ -28,11 +31,22 @@ advanced_none apply me log = record { ran = sym (append-nil _); contents = refl;
 pub same_rank_none : {C : Type 0} (me : Rank C) → IsSameRank me me
 same_rank_none me = record { layout = refl; scheme = refl; here = refl; most = refl }
 
+same_rank_more : {C : Type 0} (a b c : Rank C) → IsSameRank a b → IsSameRank b c → IsSameRank a c
+same_rank_more a b c first second = record {
+  layout = second.layout ∙ first.layout;
+  scheme = second.scheme ∙ first.scheme;
+  here = second.here ∙ first.here;
+  most = second.most ∙ first.most;
+}
+
 pub same_ranks_none : {C : Type 0} (comms : List (Rank C)) → AreSameRanks comms comms
 same_ranks_none {C} comms rank b a e f = subst (IsSameRank b) (same_item comms rank b a e f) (same_rank_none b)
 
 pub same_links_none : (links : Plain) → AreSameLinks links links
 same_links_none links = record { layout = refl; scheme = refl; ring = refl; batches = refl }
+
+pub logs_grow_more : (x y z : Plain) → LogsGrow x y → LogsGrow y z → LogsGrow x z
+logs_grow_more x y z first second rank = prefix_trans (log_of x.world rank) (log_of y.world rank) (log_of z.world rank) (first rank) (second rank)
 
 pub same_links_more : (x y z : Plain) → AreSameLinks x y → AreSameLinks y z → AreSameLinks x z
 same_links_more x y z first second = record {
@@ -59,9 +73,7 @@ module _ {C : Type 0} (apply : Applies C) where
     same_ranks_more second rank before after e f =
         let mid = get_or b rank before in
         let there : slice_get b rank ≡ Some mid = item_there a b rank before e all in
-        let one = same rank before mid e there in
-        let two = second rank mid after there f in
-        record { layout = two.layout ∙ one.layout; scheme = two.scheme ∙ one.scheme; here = two.here ∙ one.here; most = two.most ∙ one.most }
+        same_rank_more before mid after (same rank before mid e there) (second rank mid after there f)
 
     pub has_advanced_more : (rank : ℕ) → HasAdvanced apply a b x y rank → HasAdvanced apply b c y z rank → HasAdvanced apply a c x z rank
     has_advanced_more rank first second before after e f =
@@ -71,24 +83,34 @@ module _ {C : Type 0} (apply : Applies C) where
         let two = second mid after there f in
         (one.0 ++ two.0, advanced_more apply before mid after (log_of x.world rank) (log_of y.world rank) (log_of z.world rank) (same rank before mid e there) one.0 two.0 one.1 two.1)
 
-    pub failed_later : ((rank : ℕ) → HasAdvanced apply a b x y rank) → (fault : CommFault) → FailedAt apply b c y z fault → FailedAt apply a c x z fault
-    failed_later first fault failed = record {
+    pub failed_later : (start : C → C) → SameStops (told_by x) (told_by y) → ((rank : ℕ) → HasAdvanced apply a b x y rank) →
+        (fault : CommFault) → FailedAt apply start b c y z fault → FailedAt apply start a c x z fault
+    failed_later start stops first fault failed = record {
       rank = failed.rank;
       me = failed.me;
       failed = failed.failed;
+      stopped = failed.stopped;
       cause = failed.cause;
+      raised = failed.raised;
+      stop_stands = if_stopped fault (λ stood. stood ∙ stops failed.rank) failed.stop_stands;
+      other_stops = λ other ne. failed.other_stops other ne ∙ stops other;
+      others_go_on = failed.others_go_on;
       cut_off = λ before e.
           let rank = failed.rank in
           let mid = get_or b rank before in
           let there : slice_get b rank ≡ Some mid = item_there a b rank before e all in
           let one = first rank before mid e there in
-          let cut = failed.cut_off mid there in (
-            cut.0,
-            cut.1,
-            one.0 ++ cut.2,
-            advanced_more apply before mid cut.0 (log_of x.world rank) (log_of y.world rank) (log_of cut.1.world rank) (same rank before mid e there) one.0 cut.2 one.1 cut.3,
-            cut.4,
-          );
+          let last = failed.cut_off mid there in
+          let alike = same rank before mid e there in
+          record {
+            began = last.began;
+            log = last.log;
+            run = one.0 ++ last.run;
+            same_rank = same_rank_more before mid last.began alike last.same_rank;
+            advanced = advanced_more apply before mid last.began (log_of x.world rank) (log_of y.world rank) last.log alike one.0 last.run one.1 last.advanced;
+            cut_off = last.cut_off;
+            one_too_many = last.one_too_many;
+          };
       others = λ other ne. has_advanced_more other (first other) (failed.others other ne);
     }
 

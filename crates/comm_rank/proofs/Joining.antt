@@ -37,7 +37,7 @@ below_more : (from : ℕ) (xs ys : List Entry) → AllByRecursion (λ entry. oth
 below_more from xs ys below alone =
     all_append _ xs ys (all_weaker _ _ xs (λ entry h. omega (arith, h)) below) (all_weaker _ _ ys (λ entry h. omega (arith, h)) alone)
 
-taken_append : (here : ℕ) (xs ys : List Entry) → for_rank here (letters_taken (xs ++ ys)) ≡ for_rank here (letters_taken xs) ++ for_rank here (letters_taken ys)
+pub taken_append : (here : ℕ) (xs ys : List Entry) → for_rank here (letters_taken (xs ++ ys)) ≡ for_rank here (letters_taken xs) ++ for_rank here (letters_taken ys)
 taken_append here xs ys = ap (for_rank here) (flat_map-append letters_taken_by xs ys) ∙ filter-append _ (letters_taken xs) (letters_taken ys)
 
 -- ---- one rank after another

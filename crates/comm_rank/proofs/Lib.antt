@@ -7,6 +7,7 @@ pub mod Folds
 pub mod Gaining
 pub mod Holding
 pub mod Joining
+pub mod Keeping
 pub mod Loading
 pub mod Moving
 pub mod PlainTurns
@@ -18,5 +19,6 @@ pub mod Sending
 pub mod Settling
 pub mod Singles
 pub mod Standing
+pub mod Stops
 pub mod Taking
 pub mod Turning

@@ -1,6 +1,5 @@
 -- What one turn over plain links does to them.
 use Rattle.std.proofs.Common.{◌≡◌, ◌≢◌, ◌⊎◌, ℕ, zero, suc, ◌+◌, ◌<◌, ◌≤◌, Bool, true, false, ◌&&◌, ◌||◌, nat_eq, leb-true, lt-ltb, Some, List, [], ◌∷◌, ◌++◌, length, drop, filter, set, get_or, slice_get, refl, sym, ap, ◌∙◌, subst, inl, inr, arith, append-nil, append_assoc, length-append, length-set}
-use Rattle.std.specs.List.{list_any}
 use Rattle.std.proofs.lemmas.Bool.{cases_eq}
 use Rattle.std.proofs.lemmas.Grind.{flat_map-append}
 use Rattle.std.proofs.lemmas.List.Elements.{filter-append}
@@ -43,12 +42,6 @@ pub item_at : {X : Type 0} (xs : List X) (k : ℕ) (x y : X) → k < length xs �
 item_at [] k x y lt e = absurd (omega (arith, lt))
 item_at (z ∷ xs) zero x y lt e = refl
 item_at (z ∷ xs) (suc k) x y lt e = item_at xs k x y (omega (arith, lt)) e
-
-pub raised_some : (xs : List Bool) (k : ℕ) → get_or xs k false ≡ true → list_any (λ raised. raised) xs ≡ true
-raised_some [] k h = absurd cc
-raised_some (true ∷ xs) k h = refl
-raised_some (false ∷ xs) zero h = absurd cc
-raised_some (false ∷ xs) (suc k) h = raised_some xs k h
 
 none_of : {X : Type 0} (xs : List X) → length xs ≡ 0 → xs ≡ []
 none_of [] e = refl
@@ -129,6 +122,18 @@ module _ {C : Type 0} (apply : Applies C) (start : C → C) (comms : List (Rank 
     pub others_stand : (other : ℕ) → other ≢ rank → HasAdvanced apply comms after old new other
     others_stand other ne = stands apply comms after old new other (item_kept comms rank other now ne) (same.other_logs other ne)
 
+    pub others_go_on : (other : ℕ) (a : Rank C) → other ≢ rank → slice_get after other ≡ Some a → IsRankOf apply start new other a
+    others_go_on other a ne e =
+        let was = ranks.each other a (sym (item_kept comms rank other now ne) ∙ e) in
+        record {
+          here = was.here;
+          layout = was.layout ∙ sym same.layout;
+          scheme = was.scheme ∙ sym same.scheme;
+          going = was.going;
+          few = omega (arith, was.few, same.batches);
+          agrees = subst (Agrees apply start a) (sym (same.other_logs other ne)) was.agrees;
+        }
+
   module _ (turn : Turn) (at : TurnAt apply start me now old new turn rank) where
     pub advanced_after : (other : ℕ) → HasAdvanced apply comms after old new other
     advanced_after other = elim (cases_eq other rank) [
@@ -145,7 +150,6 @@ module _ {C : Type 0} (apply : Applies C) (start : C → C) (comms : List (Rank 
     pub ranks_after : now.stopped ≡ false → AreRanks apply start after new
     ranks_after going = record {
       all = length-set comms rank now ∙ ranks.all ∙ ap (λ (s : Shape). s.ranks) (sym at.same.layout);
-      room = omega (arith, ranks.room, at.same.ring);
       each = λ other a e. elim (cases_eq other rank) [
         | inl is ↦
             let P : ℕ → Type 0 = λ r. slice_get after r ≡ Some a in
@@ -159,16 +163,7 @@ module _ {C : Type 0} (apply : Applies C) (start : C → C) (comms : List (Rank 
               agrees = at.agrees;
             } in
             subst (λ r. IsRankOf apply start new r a) (sym is) (subst (IsRankOf apply start new rank) becomes mine_now)
-        | inr ne ↦
-            let was = ranks.each other a (sym (item_kept comms rank other now ne) ∙ e) in
-            record {
-              here = was.here;
-              layout = was.layout ∙ sym at.same.layout;
-              scheme = was.scheme ∙ sym at.same.scheme;
-              going = was.going;
-              few = omega (arith, was.few, at.same.batches);
-              agrees = subst (Agrees apply start a) (sym (at.same.other_logs other ne)) was.agrees;
-            }
+        | inr ne ↦ others_go_on at.same other a ne e
       ];
     }
 
@@ -220,7 +215,7 @@ module _ {C : Type 0} (apply : Applies C) (start : C → C) (comms : List (Rank 
       taken = taken_stays from to t;
     }
 
-    module _ (v : IsWorld old.world) (w : IsWorld new.world) (direct : me.scheme ≡ Direct) (few : now.sent_count ≤ now.most) where
+    module _ (v : IsWorld old.world) (w : IsWorld new.world) (room : 1 ≤ old.ring) (direct : me.scheme ≡ Direct) (few : now.sent_count ≤ now.most) where
       was_direct : old.world.scheme ≡ Direct
       was_direct = sym mine.scheme ∙ direct
 
@@ -262,7 +257,7 @@ module _ {C : Type 0} (apply : Applies C) (start : C → C) (comms : List (Rank 
             | inr met ↦ elim (either _ _ (met.full (lt-ltb to old.world.layout.ranks (omega (arith, lt, count))))) [
               | inl full ↦
                   let long : new.ring ≤ length (link new.world rank to) = leb-true new.ring (length (link new.world rank to)) full in
-                  absurd (omega (arith, long, ap length none, ranks.room, at.same.ring))
+                  absurd (omega (arith, long, ap length none, room, at.same.ring))
               | inr full ↦
                   let carried : new.batches ≤ length (batches_put to (log_of new.world rank)) = leb-true new.batches (length (batches_put to (log_of new.world rank))) full in
                   let letters = carried_few new.world w is_direct some_now rank to here in

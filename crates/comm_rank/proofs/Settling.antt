@@ -32,7 +32,7 @@ shorter {X} (x ∷ xs) (y ∷ ys) (z ∷ zs) p q le =
     heads : (a b : X) (us vs : List X) → a ∷ us ≡ b ∷ vs → (a ≡ b) × (us ≡ vs)
     heads a b us vs e = (cc, cc)
 
-twice : (p q : Letter → Bool) → ((l : Letter) → p l ≡ true → q l ≡ true) → (xs : List Letter) → filter p (filter q xs) ≡ filter p xs
+pub twice : (p q : Letter → Bool) → ((l : Letter) → p l ≡ true → q l ≡ true) → (xs : List Letter) → filter p (filter q xs) ≡ filter p xs
 twice p q h [] = refl
 twice p q h (x ∷ xs) = by_test (p x) (q x) refl refl (twice p q h xs)
   where
@@ -48,7 +48,7 @@ last_and_first true true false h = absurd cc
 last_and_first true false c h = absurd cc
 last_and_first false b c h = absurd cc
 
-of_those : (from to : ℕ) (xs : List Letter) → of_pair from to (for_rank to xs) ≡ of_pair from to xs
+pub of_those : (from to : ℕ) (xs : List Letter) → of_pair from to (for_rank to xs) ≡ of_pair from to xs
 of_those from to xs = twice (is_of_pair from to) (λ l. is_data l && nat_eq l.to to) (λ l h. last_and_first (is_data l) (nat_eq l.from from) (nat_eq l.to to) h) xs
 
 pub ran_is_taken : {C : Type 0} (me : Rank C) (log : List Entry) (from to : ℕ) → me.here ≡ to → me.waiting ≡ [] → ran_from me log from ≡ pair_taken from to log

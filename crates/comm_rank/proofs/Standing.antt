@@ -1,5 +1,5 @@
 -- All ranks of a world: two that are new, and those of which one has sent.
-use Rattle.std.proofs.Common.{◌≡◌, ℕ, zero, suc, ◌<◌, ◌≤◌, Some, List, [], ◌∷◌, length, replicate, set, slice_get, refl, sym, ◌∙◌, subst, inl, inr, arith, length-set}
+use Rattle.std.proofs.Common.{◌≡◌, ℕ, zero, suc, ◌<◌, ◌≤◌, Some, List, [], ◌∷◌, set, slice_get, refl, sym, ◌∙◌, subst, inl, inr, arith, length-set}
 use Rattle.std.proofs.lemmas.Bool.{cases_eq}
 use Rattle.std.proofs.lemmas.List.{get_or-replicate}
 use Rattle.std.proofs.lemmas.Option.{slice_get_within}
@@ -21,7 +21,6 @@ module _ {C : Type 0} (apply : Applies C) (start : C → C) where
       AreRanks apply start comms links → AreRanks apply start (set comms rank now) links
   ranks_sent comms links rank me now there same stopped agrees ranks = record {
     all = length-set comms rank now ∙ ranks.all;
-    room = ranks.room;
     each = λ other a e. elim (cases_eq other rank) [
       | inl is ↦
           let P : ℕ → Type 0 = λ r. slice_get (set comms rank now) r ≡ Some a in
@@ -68,5 +67,5 @@ module _ {C : Type 0} (apply : Applies C) (start : C → C) where
       each_new (suc zero) me e = subst (IsRankOf apply start bare 1) (same_item pair 1 (new_rank 1 far) me refl e) (is_new 1 far (omega (arith, two)) second)
       each_new (suc (suc rank)) me e = absurd (let h = e in cc)
 
-      pub ranks_new : 1 ≤ ring → AreRanks apply start (fresh_rank layout Direct 0 most near ∷ fresh_rank layout Direct 1 most far ∷ []) (fresh_links layout Direct ring batches)
-      ranks_new room = record { all = sym two; each = each_new; room = room }
+      pub ranks_new : AreRanks apply start (fresh_rank layout Direct 0 most near ∷ fresh_rank layout Direct 1 most far ∷ []) (fresh_links layout Direct ring batches)
+      ranks_new = record { all = sym two; each = each_new }

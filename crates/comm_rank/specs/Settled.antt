@@ -1,15 +1,17 @@
 -- All ranks of a world over plain links, and what the weak barrier does.
-use Rattle.std.specs.Prelude.{◌≡◌, ◌≢◌, ◌⊎◌, ℕ, ◌+◌, ◌<◌, ◌≤◌, Bool, false, Option, None, List, [], ◌++◌, Some, length, slice_get}
+use Rattle.std.specs.Prelude.{◌≡◌, ◌≢◌, ◌⊎◌, ℕ, ◌+◌, ◌<◌, ◌≤◌, Bool, false, true, Option, None, List, [], ◌++◌, Some, length, slice_get}
 use Rattle.msg_codec.specs.declared.letter.Letter.{Letter}
-use Rattle.world_core.specs.Plain.{Plain}
+use Rattle.world_core.specs.declared.entry.Entry.{Entry}
+use Rattle.world_core.specs.Log.{letters_of}
 use Rattle.world_core.specs.Pairs.{of_pair, pair_put, pair_taken}
+use Rattle.world_core.specs.Plain.{Plain, told_by}
 use Rattle.world_core.specs.Sound.{IsPrefix}
 use Rattle.world_core.specs.World.{link, log_of}
 use Rattle.comm_rank.specs.Agrees.{Agrees}
-use Rattle.comm_rank.specs.Fault.{IsFullAt}
+use Rattle.comm_rank.specs.Fault.{IfCountFull, IfStopped, IsFullAt, UnlessStopped}
 use Rattle.comm_rank.specs.Fold.{Applies}
-use Rattle.comm_rank.specs.Rank.{Rank, IsSameRank, held_letters, sent_to, ran_from}
-use Rattle.comm_rank.specs.Turns.{Advanced, CutOff}
+use Rattle.comm_rank.specs.Rank.{Rank, IsSameRank, handed, held_letters, sent_to, ran_from}
+use Rattle.comm_rank.specs.Turns.{Advanced, CutOff, came_in}
 use Rattle.comm_rank.specs.declared.fault.CommFault.{CommFault}
 
 -- a rank of the links' world, which may go on: its number, and that a link carries all that it may send
@@ -21,11 +23,10 @@ pub record IsRankOf {C : Type 0} (apply : Applies C) (start : C → C) (links : 
   pub few : me.most ≤ links.batches
   pub agrees : Agrees apply start me (log_of links.world rank)
 
--- one for each rank, in the order of ranks, over links that hold something
+-- one for each rank, in the order of ranks
 pub record AreRanks {C : Type 0} (apply : Applies C) (start : C → C) (comms : List (Rank C)) (links : Plain) : Type 0 where
   pub all : length comms ≡ links.world.layout.ranks
   pub each : (rank : ℕ) (me : Rank C) → slice_get comms rank ≡ Some me → IsRankOf apply start links rank me
-  pub room : 1 ≤ links.ring
 
 -- the links are of the same world
 pub record AreSameLinks (old new : Plain) : Type 0 where
@@ -48,17 +49,42 @@ abbrev pub HasRun : {C : Type 0} → List (Rank C) → List (Rank C) → Plain �
 HasRun {C} before after old new caller = (to : ℕ) (b a : Rank C) → slice_get before caller ≡ Some b → slice_get after to ≡ Some a →
     IsPrefix (sent_to b (log_of old.world caller) to) (ran_from a (log_of new.world to) caller)
 
--- A turn of one rank failed; at each of the others letters ran.
-pub record FailedAt {C : Type 0} (apply : Applies C) (before after : List (Rank C)) (old new : Plain) (fault : CommFault) : Type 0 where
+-- what each log was is the beginning of what it is
+abbrev pub LogsGrow : Plain → Plain → Type 0
+LogsGrow old new = (rank : ℕ) → IsPrefix (log_of old.world rank) (log_of new.world rank)
+
+-- No letter is lost: what a rank has sent to another ran there, waits there, is in the link or is held still, in this
+-- order.
+abbrev pub NoneLost : {C : Type 0} → List (Rank C) → Plain → Type 0
+NoneLost {C} comms links = (from to : ℕ) (s d : Rank C) → slice_get comms from ≡ Some s → slice_get comms to ≡ Some d →
+    sent_to s (log_of links.world from) to
+    ≡ ran_from d (log_of links.world to) from ++ of_pair from to d.waiting ++ of_pair from to (letters_of (link links.world from to)) ++ of_pair from to (held_letters s)
+
+-- A rank's last turn was cut off: how the rank and its log were as that turn began, and what ran before. A full count
+-- came where all that came in would make it send more than it may.
+pub record LastTurn {C : Type 0} (apply : Applies C) (old new : Rank C) (before after : List Entry) (fault : CommFault) : Type 0 where
+  pub began : Rank C
+  pub log : List Entry
+  pub run : List Letter
+  pub same_rank : IsSameRank old began
+  pub advanced : Advanced apply old began before log run
+  pub cut_off : CutOff apply began new log after
+  pub one_too_many : IfCountFull fault (λ _. began.most < began.sent_count + length (handed apply began (came_in began.here log after)))
+
+-- A turn of one rank failed, which is stopped and has raised the stop, unless it met it. At each of the others letters
+-- ran: they may go on, and whether they have raised the stop is as before.
+pub record FailedAt {C : Type 0} (apply : Applies C) (start : C → C) (before after : List (Rank C)) (old new : Plain) (fault : CommFault) : Type 0 where
   pub rank : ℕ
   pub me : Rank C
   pub failed : slice_get after rank ≡ Some me
+  pub stopped : me.stopped ≡ true
   pub cause : IsFullAt me.sent_count me.most fault
-  pub cut_off : (b : Rank C) → slice_get before rank ≡ Some b →
-      (held : Rank C) × (between : Plain) × (run : List Letter)
-      × Advanced apply b held (log_of old.world rank) (log_of between.world rank) run
-      × CutOff apply held me (log_of between.world rank) (log_of new.world rank)
+  pub cut_off : (b : Rank C) → slice_get before rank ≡ Some b → LastTurn apply b me (log_of old.world rank) (log_of new.world rank) fault
+  pub raised : UnlessStopped fault ((told_by new).raised rank ≡ true)
+  pub stop_stands : IfStopped fault ((told_by new).raised rank ≡ (told_by old).raised rank)
+  pub other_stops : (other : ℕ) → other ≢ rank → (told_by new).raised other ≡ (told_by old).raised other
   pub others : (other : ℕ) → other ≢ rank → HasAdvanced apply before after old new other
+  pub others_go_on : (other : ℕ) (a : Rank C) → other ≢ rank → slice_get after other ≡ Some a → IsRankOf apply start new other a
 
 -- ---- rounds of turns
 

@@ -1,21 +1,13 @@
 //! The weak barrier.
 ghost use Rattle.std.specs.Prelude.{◌≡◌, ◌<◌, ℕ, true, false, length, IfErr, IfOk, OnOk};
 ghost use Rattle.world_core.specs.Modest.{IsWorld};
-ghost use Rattle.world_core.specs.Plain.{is_stopped};
-ghost use Rattle.world_core.specs.Post.{Rose};
-ghost use Rattle.comm_rank.specs.Fault.{GivesIfFull, IfStopped, UnlessStopped};
-ghost use Rattle.comm_rank.specs.Settled.{AreRanks, AreSameLinks, AreSameRanks, FailedAt, HasAdvanced, HasRun, RoundMoves, TurnMoves};
+ghost use Rattle.world_core.specs.Plain.{is_stopped, told_by};
+ghost use Rattle.world_core.specs.Post.{Rose, SameStops};
+ghost use Rattle.comm_rank.specs.Fault.{GivesIfFull, IfStopped};
+ghost use Rattle.comm_rank.specs.Settled.{AreRanks, AreSameLinks, AreSameRanks, FailedAt, HasAdvanced, HasRun, LogsGrow, NoneLost, RoundMoves, TurnMoves};
 
 use crate::{Comm, CommFault, Handler, Turn};
 use world_core::PlainLinks;
-
-/// It does nothing. The world of links is sound, always.
-fn is_sound(links: &PlainLinks)
-    requires { 0 < links.now.world.layout.ranks }
-    ensures { IsWorld links.now.world }
-{
-    let _first = links.world().link_len(0, 0);
-}
 
 /// Whether a turn took or put a batch.
 fn has_moved(turn: Turn) -> bool
@@ -35,18 +27,20 @@ fn turn_of<H: Handler>(
     ensures moves { IfOk result (TurnMoves comms.old comms.new links.old links.new rank) }
     ensures advanced { OnOk result ((other : ℕ) → HasAdvanced H.apply comms.old comms.new links.old links.new other) }
     ensures ranks { OnOk result (AreRanks H.apply H.start comms.new links.new) }
-    ensures failed { IfErr result (FailedAt H.apply comms.old comms.new links.old links.new) }
+    ensures failed { IfErr result (FailedAt H.apply H.start comms.old comms.new links.old links.new) }
     ensures halts { IfErr result (λ fault. IfStopped fault (Rose links.old.halts links.new.halts)) }
-    ensures raises_the_stop { IfErr result (λ fault. UnlessStopped fault (is_stopped links.new ≡ true)) }
+    ensures stopped_before { IfErr result (λ fault. IfStopped fault (is_stopped links.old ≡ true)) }
     ensures gave { IfErr result (GivesIfFull H.apply) }
+    ensures stops_stand { OnOk result (SameStops (told_by links.old) (told_by links.new)) }
     ensures halts_stand { OnOk result (links.new.halts ≡ links.old.halts) }
     ensures same_ranks { AreSameRanks comms.old comms.new }
     ensures all { length comms.new ≡ length comms.old }
+    ensures logs_grow { LogsGrow links.old links.new }
     ensures same_links { AreSameLinks links.old links.new }
 {
-    is_sound(links);
+    links.holds();
     let turn = comms[rank].turn(links)?;
-    is_sound(links);
+    links.holds();
     comms[rank].holds();
     Ok(has_moved(turn))
 }
@@ -57,13 +51,15 @@ fn round<H: Handler>(comms: &mut [Comm<H>], links: &mut PlainLinks) -> Result<bo
     ensures moves { IfOk result (RoundMoves (length comms.old) comms.old comms.new links.old links.new) }
     ensures advanced { OnOk result ((other : ℕ) → HasAdvanced H.apply comms.old comms.new links.old links.new other) }
     ensures ranks { OnOk result (AreRanks H.apply H.start comms.new links.new) }
-    ensures failed { IfErr result (FailedAt H.apply comms.old comms.new links.old links.new) }
+    ensures failed { IfErr result (FailedAt H.apply H.start comms.old comms.new links.old links.new) }
     ensures halts { IfErr result (λ fault. IfStopped fault (Rose links.old.halts links.new.halts)) }
-    ensures raises_the_stop { IfErr result (λ fault. UnlessStopped fault (is_stopped links.new ≡ true)) }
+    ensures stopped_before { IfErr result (λ fault. IfStopped fault (is_stopped links.old ≡ true)) }
     ensures gave { IfErr result (GivesIfFull H.apply) }
+    ensures stops_stand { OnOk result (SameStops (told_by links.old) (told_by links.new)) }
     ensures halts_stand { OnOk result (links.new.halts ≡ links.old.halts) }
     ensures same_ranks { AreSameRanks comms.old comms.new }
     ensures all { length comms.new ≡ length comms.old }
+    ensures logs_grow { LogsGrow links.old links.new }
     ensures same_links { AreSameLinks links.old links.new }
 {
     let mut moved = false;
@@ -78,8 +74,13 @@ fn round<H: Handler>(comms: &mut [Comm<H>], links: &mut PlainLinks) -> Result<bo
 /// order for each destination. Of letters that handlers send meanwhile it says nothing.
 ///
 /// It gives each rank one turn more than the caller has sent letters, and fewer where a whole round of turns
-/// found nothing to do. After a refusal each letter that was sent has run, waits in its link, or waits at its
-/// sender or its destination, in order; and one rank has raised the stop.
+/// found nothing to do.
+///
+/// It answers `Stopped` where a rank had raised the stop before, `CountFull` where a letter that a handler gave
+/// would be one more than its rank may send, and `NoMemory` where memory is wanting. The rank whose turn failed is
+/// then stopped for good, and has raised the stop unless it met it; the others are not stopped. Whatever the
+/// answer, no letter is lost: each that was sent has run, waits at its destination, is in its link or is held by
+/// its sender, in order.
 pub fn settle<H: Handler>(
     comms: &mut [Comm<H>],
     links: &mut PlainLinks,
@@ -90,22 +91,27 @@ pub fn settle<H: Handler>(
     ensures has_run { OnOk result (HasRun comms.old comms.new links.old links.new caller) }
     ensures advanced { OnOk result ((rank : ℕ) → HasAdvanced H.apply comms.old comms.new links.old links.new rank) }
     ensures ranks { OnOk result (AreRanks H.apply H.start comms.new links.new) }
-    ensures sound { OnOk result (IsWorld links.new.world) }
-    ensures failed { IfErr result (FailedAt H.apply comms.old comms.new links.old links.new) }
+    ensures sound { IsWorld links.new.world }
+    ensures none_lost { NoneLost comms.new links.new }
+    ensures stops_stand { OnOk result (SameStops (told_by links.old) (told_by links.new)) }
+    ensures failed { IfErr result (FailedAt H.apply H.start comms.old comms.new links.old links.new) }
     ensures halts { IfErr result (λ fault. IfStopped fault (Rose links.old.halts links.new.halts)) }
-    ensures raises_the_stop { IfErr result (λ fault. UnlessStopped fault (is_stopped links.new ≡ true)) }
+    ensures stopped_before { IfErr result (λ fault. IfStopped fault (is_stopped links.old ≡ true)) }
     ensures gave { IfErr result (GivesIfFull H.apply) }
     ensures same_ranks { AreSameRanks comms.old comms.new }
     ensures all { length comms.new ≡ length comms.old }
+    ensures logs_grow { LogsGrow links.old links.new }
     ensures same_links { AreSameLinks links.old links.new }
 {
     let most = comms[caller as usize].sent_count();
+    comms[caller as usize].holds();
     for _ in 0..most + 1 {
-        if !round(comms, links)? {
-            is_sound(links);
+        let moved = round(comms, links);
+        links.holds();
+        if !moved? {
             return Ok(());
         }
     }
-    is_sound(links);
+    links.holds();
     Ok(())
 }

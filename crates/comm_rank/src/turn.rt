@@ -1,13 +1,13 @@
 //! A rank's turn: what came is run, and what it holds is put into its links.
-ghost use Rattle.std.specs.Prelude.{◌≡◌, ◌≢◌, ◌<◌, ◌≤◌, ◌+◌, ◌-◌, ◌^◌, [], ℕ, List, true, false, is_err, length, map, min, take, IsTrue, IfOk, IfErr, OnOk, OnErr};
+ghost use Rattle.std.specs.Prelude.{◌≡◌, ◌≢◌, ◌<◌, ◌≤◌, ◌+◌, ◌-◌, ◌^◌, [], ℕ, List, Err, true, false, is_err, length, map, min, take, IsTrue, IfOk, IfErr, OnOk, OnErr};
 ghost use Rattle.std.specs.List.{AllByRecursion};
 ghost use Rattle.world_core.specs.declared.entry.Entry.{Entry};
 ghost use Rattle.msg_codec.specs.declared.letter.Letter.{Letter};
-ghost use Rattle.world_core.specs.Post.{Rose, SamePost, SameStops};
+ghost use Rattle.world_core.specs.Post.{Rose, SamePost, SameStops, ServesAll, SomeRaised};
 ghost use Rattle.world_core.specs.Rules.{IsHonest};
 ghost use Rattle.comm_rank.specs.Agrees.{Agrees};
 ghost use Rattle.comm_rank.specs.Fault.{GivesIfFull, IfCountFull, IfStopped, IsFullAt, NeverStopped, UnlessStopped, halted};
-ghost use Rattle.comm_rank.specs.declared.fault.CommFault.TheVariants.{NoMemory};
+ghost use Rattle.comm_rank.specs.declared.fault.CommFault.TheVariants.{NoMemory, Stopped};
 ghost use Rattle.comm_rank.specs.Fold.{letter_by};
 ghost use Rattle.comm_rank.specs.Held.{AreApart, Gains, OthersStand, held_for};
 ghost use Rattle.comm_rank.specs.Puts.{MayPut, Moved, NoneOrFull, PostStands, PutOut, PutUntil, PutsOne, put_count};
@@ -166,6 +166,8 @@ impl<H: Handler> Comm<H> {
         ensures puts_to_each { OnOk result ((to : ℕ) → to < self.old.layout.ranks → NoneOrFull self.old.here to self.new.held (P.told post.old) (P.told post.new)) }
         ensures full { IfOk result (λ turn. FirstFull self.new.held (P.told post.old) (P.told post.new) turn.full) }
         ensures halts { IfErr result (λ fault. IfStopped fault (Rose (P.told post.old).halts (P.told post.new).halts)) }
+        ensures raised_before { IfErr result (λ fault. IfStopped fault (ServesAll (P.told post.old) → SomeRaised (P.told post.old))) }
+        ensures sees_the_stop { (rank : ℕ) → IsTrue ((P.told post.old).serves rank) → (P.told post.old).raised rank ≡ true → result ≡ Err Stopped }
         ensures does_nothing_when_halted { IfErr result (λ fault. IfStopped fault (self.new ≡ halted self.old)) }
         ensures log_stands_when_halted { IfErr result (λ fault. IfStopped fault ((P.told post.new).log self.old.here ≡ (P.told post.old).log self.old.here)) }
         ensures stop_stands_when_halted { IfErr result (λ fault. IfStopped fault (SameStops (P.told post.old) (P.told post.new))) }

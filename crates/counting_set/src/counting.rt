@@ -91,6 +91,14 @@ impl Counting {
         requires { F.IsAlwaysCallable f }
         ensures { (last : F) × FoldsTo (ShownTo F.FnMut) f self.now last }
     {
+        self.show_all(&mut f);
+    }
+
+    // Calls `f` at each item and its count, in order, and at nothing else.
+    fn show_all<F: FnMut(&[u8], u64)>(&self, f: &mut F)
+        requires { F.IsAlwaysCallable f.old }
+        ensures { FoldsTo (ShownTo F.FnMut) f.old self.now f.new }
+    {
         for k in 0..self.len_here() {
             let (item, count) = self.entry_here(k);
             f(item, count);

@@ -31,5 +31,6 @@ pub fn counting_sends_nothing()
 
 /// The letter that `count_insert` sends adds one of its item.
 pub fn an_insert_adds_one()
-    ensures { (to from : ℕ) (item : List ℕ) → length item ≤ MAX_ITEM → adds (add_letter to from item) ≡ Some (item, 1) }
+    ensures adds { (to from : ℕ) (item : List ℕ) → length item ≤ MAX_ITEM → adds (add_letter to from item) ≡ Some (item, 1) }
+    ensures limit { MAX_ITEM ≡ 1000100 }
 {}

@@ -80,25 +80,29 @@ fn an_item_that_begins_another_is_apart(rt: HostRuntime) -> Result<(), Fail> {
     Ok(())
 }
 
-#[test]
-fn each_item_is_shown_once(rt: HostRuntime) -> Result<(), Fail> {
-    let alloc = rt.alloc();
+// Twice `x`, and `yz` and the empty item between.
+fn three_items(alloc: Global) -> Result<Counting, AllocError> {
     let mut counting = Counting::new(alloc)?;
     add(alloc, &mut counting, b"x", 2)?;
     add(alloc, &mut counting, b"yz", 3)?;
+    add(alloc, &mut counting, b"", 1)?;
     add(alloc, &mut counting, b"x", 4)?;
-    let mut seen = [0u64; 2];
+    Ok(counting)
+}
+
+#[test]
+fn each_item_is_shown_once(rt: HostRuntime) -> Result<(), Fail> {
+    let counting = three_items(rt.alloc())?;
     let mut calls = 0u64;
+    let mut sums = [0u64; 3];
     counting.for_all(|item, count| {
         calls = calls.saturating_add(1);
-        if item.len() == 1 {
-            seen[0] = count;
-        } else {
-            seen[1] = count;
+        if item.len() < 3 {
+            sums[item.len()] = sums[item.len()].saturating_add(count);
         }
     });
-    assert_eq!(rt; calls, 2);
-    assert_eq!(rt; seen, [6, 3]);
+    assert_eq!(rt; calls, 3);
+    assert_eq!(rt; sums, [1, 6, 3]);
     Ok(())
 }
 

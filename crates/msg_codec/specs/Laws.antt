@@ -60,7 +60,7 @@ front_8 : (bytes : List ℕ) → from_le_bytes w64 bytes ≡ from_le_bytes w64 (
 front_8 bytes =
     sym (simp (get_or-take 8 bytes 0 0 (lit< tt), get_or-take 8 bytes 1 0 (lit< tt), get_or-take 8 bytes 2 0 (lit< tt), get_or-take 8 bytes 3 0 (lit< tt), get_or-take 8 bytes 4 0 (lit< tt), get_or-take 8 bytes 5 0 (lit< tt), get_or-take 8 bytes 6 0 (lit< tt), get_or-take 8 bytes 7 0 (lit< tt)))
 
-front_4 : (bytes : List ℕ) → from_le_bytes w32 bytes ≡ from_le_bytes w32 (take 4 bytes)
+pub front_4 : (bytes : List ℕ) → from_le_bytes w32 bytes ≡ from_le_bytes w32 (take 4 bytes)
 front_4 bytes = sym (simp (get_or-take 4 bytes 0 0 (lit< tt), get_or-take 4 bytes 1 0 (lit< tt), get_or-take 4 bytes 2 0 (lit< tt), get_or-take 4 bytes 3 0 (lit< tt)))
 
 pub number_spelled : (bytes : List ℕ) (n len : ℕ) → AreBytes bytes → number_reading bytes ≡ Ok (n, len) → (n < 2 ^ 64) × (take len bytes ≡ spelled_number n) × (len ≤ length bytes)
@@ -77,7 +77,7 @@ number_spelled bytes n len fit e =
 
 -- ---- bodies
 
-told_is : (body rest : List ℕ) → length body ≤ 1048576 → told (spelled_body body ++ rest) ≡ length body
+pub told_is : (body rest : List ℕ) → length body ≤ 1048576 → told (spelled_body body ++ rest) ≡ length body
 unfolding told
 told_is body rest short = from_le_bytes-to_le_bytes_4 (length body) (omega (arith, short))
 

@@ -1,18 +1,15 @@
 //! Many letters in one piece.
-ghost use Rattle.std.specs.Prelude.{All, ◌≡◌, ◌<◌, ◌≤◌, ◌+◌, [], ◌∷◌, ◌++◌, length, drop, slice_get, Some, IfOk, OnOk, OnErr, is_ok, if◌then◌else◌};
-ghost use Rattle.std.specs.Int.{w32, to_le_bytes};
-ghost use Rattle.msg_codec.specs.Bytes.{AreBytes};
+ghost use Rattle.std.specs.Prelude.{All, ◌≡◌, ◌<◌, ◌≤◌, ◌+◌, [], ◌∷◌, ◌++◌, length, drop, slice_get, Some, IfOk, OnOk, OnErr};
+ghost use Rattle.std.specs.Int.{to_le_bytes};
 ghost use Rattle.msg_codec.specs.Letter.{letter_of};
 ghost use Rattle.msg_codec.specs.Placed.{told_length, first_letter, Fits, IsHeld};
 ghost use Rattle.msg_codec.specs.Spelling.{header, spelled_letter, spelling};
 
 use crate::LetterRef;
 use crate::body::length_field;
+use crate::letter::HEADER_LEN;
 use std::alloc::{AllocError, Global};
 use std::marker::Model;
-
-/// The number of bytes before a letter's body.
-const HEADER_LEN: usize = 13;
 
 /// A list of letters, kept as it is sent: the letters' spellings, one after another.
 #[derive(Debug, Drop)]

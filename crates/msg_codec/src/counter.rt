@@ -2,6 +2,7 @@
 ghost use Rattle.std.specs.Prelude.{◌≡◌, ◌+◌, ◌<◌, ◌≤◌, ◌↔◌, ℕ, IsErr, OnOk, OnErr, IfErr};
 
 use std::marker::Model;
+use thiserror::Error;
 
 /// A count that never passes its limit.
 #[derive(Debug, Drop)]
@@ -21,9 +22,10 @@ impl Model for Counter {
     ghost invariant = { λ counter. counter.count ≤ counter.limit };
 }
 
-/// Shows that a counter was at its limit. `Counter::raise` alone makes one, so whoever has it for some
-/// limit knows that a counter was raised to at least that limit less 63.
-#[derive(Clone, Copy, Debug, PartialEq, Eq)]
+/// Shows that a counter couldn't be raised by what was asked. `Counter::raise` alone makes one, so
+/// whoever has it for some limit knows that a counter was raised to at least that limit less 63.
+#[derive(Clone, Copy, Debug, PartialEq, Eq, Error)]
+#[error("the count is at its limit")]
 pub struct AtLimit {
     limit: u64,
 }

@@ -33,23 +33,17 @@ fn item_count_at(from: &[u8]) -> Result<((&[u8], u64), usize), WireFault>
     Ok(((item, count), len + more))
 }
 
-#[tactic(auto, unfolding(crate::specs::ItemCount::item_count_of))]
-fn whole_item_count(body: &[u8]) -> Option<(&[u8], u64)>
-    ensures { option_map (λ found. (found.0.now, found.1)) result ≡ item_count_of body.now }
-{
-    match item_count_at(body) {
-        Ok((found, len)) if len == body.len() => Some(found),
-        _ => None,
-    }
-}
-
 /// The item and the count that the body is the spelling of. `None` where it is no such spelling, be it
 /// too short, too long or of a length that no item has.
+#[tactic(auto, unfolding(crate::specs::ItemCount::item_count_of))]
 pub fn read_item_count(body: &[u8]) -> Option<(&[u8], u64)>
     ensures found { IfSome result (λ found. body.now ≡ spelled_item_count found.0.now found.1) }
     ensures short { IfSome result (λ found. length found.0.now ≤ MAX_BODY) }
     ensures none { IfNone result ((item : List ℕ) (count : ℕ) → length item ≤ MAX_BODY → count < 2 ^ 64 → body.now ≢ spelled_item_count item count) }
     ensures exact { option_map (λ found. (found.0.now, found.1)) result ≡ item_count_of body.now }
 {
-    whole_item_count(body)
+    match item_count_at(body) {
+        Ok((found, len)) if len == body.len() => Some(found),
+        _ => None,
+    }
 }

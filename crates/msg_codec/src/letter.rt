@@ -3,6 +3,9 @@ ghost use Rattle.std.specs.Prelude.{◌≡◌, ◌≤◌, length};
 
 use crate::Body;
 
+/// The number of bytes of a letter's spelling before its body.
+pub(crate) const HEADER_LEN: usize = 13;
+
 /// A message of its own: the rank that it goes to, the rank that sent it, the tag that says what its
 /// body is, and the body.
 #[derive(Debug, Drop)]
@@ -42,10 +45,10 @@ impl LetterRef<'_> {
     ghost use Rattle.msg_codec.specs.Letter.{letter_of};
     ghost use Rattle.msg_codec.specs.Spelling.{spelled_letter};
 
-    /// The number of bytes of its spelling: 13 and those of its body.
+    /// The number of bytes of its spelling: those before its body and those of its body.
     pub fn spelled_len(&self) -> usize
         ensures { result ≡ length (spelled_letter (letter_of self.now)) }
     {
-        13 + self.body.len()
+        HEADER_LEN + self.body.len()
     }
 }

@@ -1,21 +1,9 @@
 //! Values that are spelled by all of some bytes, as the body of a letter is.
-ghost use Rattle.std.specs.Prelude.{◌≡◌, ◌≢◌, length, IfOk, IfSome, IfNone};
+ghost use Rattle.std.specs.Prelude.{◌≡◌, ◌≢◌, IfOk, IfSome, IfNone};
 ghost use Rattle.msg_codec.specs.Reading.{whole};
 
 use crate::{Wire, WireFault};
 use std::alloc::{AllocError, Global};
-
-fn whole_value<W: Wire>(alloc: Global, body: &[u8]) -> Result<Option<W>, AllocError>
-    ensures found { IfOk result (λ read. IfSome read (λ value. body.now ≡ W.spelled value)) }
-    ensures range { IfOk result (λ read. IfSome read W.in_range) }
-    ensures exact { IfOk result (λ read. read ≡ whole W.reading body.now) }
-{
-    match W::get(alloc, body) {
-        Ok((value, len)) if len == body.len() => Ok(Some(value)),
-        Err(WireFault::NoMemory) => Err(AllocError),
-        _ => Ok(None),
-    }
-}
 
 /// The value that the body is the spelling of. `None` where it is no spelling, or has bytes left over.
 pub fn read_whole<W: Wire>(alloc: Global, body: &[u8]) -> Result<Option<W>, AllocError>
@@ -24,5 +12,9 @@ pub fn read_whole<W: Wire>(alloc: Global, body: &[u8]) -> Result<Option<W>, Allo
     ensures none { IfOk result (λ read. IfNone read ((value : W) → W.in_range value → body.now ≢ W.spelled value)) }
     ensures exact { IfOk result (λ read. read ≡ whole W.reading body.now) }
 {
-    whole_value(alloc, body)
+    match W::get(alloc, body) {
+        Ok((value, len)) if len == body.len() => Ok(Some(value)),
+        Err(WireFault::NoMemory) => Err(AllocError),
+        _ => Ok(None),
+    }
 }

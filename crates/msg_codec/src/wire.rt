@@ -1,8 +1,8 @@
 //! Values as they are spelled in the bodies of letters.
-ghost use Rattle.std.specs.Prelude.{◌≡◌, ◌<◌, ◌≤◌, ◌+◌, ◌^◌, ℕ, List, ◌++◌, length, take, Result, Ok, IfOk, OnOk, OnErr};
-ghost use Rattle.std.specs.Int.{w64, to_le_bytes};
+ghost use Rattle.std.specs.Prelude.{◌≡◌, ◌≢◌, ◌<◌, ◌≤◌, ◌+◌, ◌^◌, ℕ, List, [], ◌++◌, length, take, Result, Ok, Err, IfOk, OnOk, OnErr};
+ghost use Rattle.std.specs.Int.{to_le_bytes};
 ghost use Rattle.msg_codec.specs.declared.wire.WireFault.{WireFault};
-ghost use Rattle.msg_codec.specs.declared.wire.WireFault.TheVariants.{NoMemory};
+ghost use Rattle.msg_codec.specs.declared.wire.WireFault.TheVariants.{Short, TooLong, NoMemory};
 ghost use Rattle.msg_codec.specs.Bytes.{AreBytes};
 ghost use Rattle.msg_codec.specs.Reading.{Gives, IsReading, number_reading, body_reading, pair_reading};
 ghost use Rattle.msg_codec.specs.Spelling.{spelled_number, spelled_body};
@@ -63,6 +63,12 @@ pub trait Wire: Drop {
 
     /// What is read is spelled so.
     ghost read_spelled: { (bytes : List ℕ) (value : Self) (len : ℕ) → AreBytes bytes → reading bytes ≡ Ok (value, len) → in_range value × (take len bytes ≡ spelled value) × (len ≤ length bytes) };
+
+    /// Where the bytes end before a spelling does, they are short.
+    ghost short_where_cut: { (value : Self) (front back : List ℕ) → in_range value → spelled value ≡ front ++ back → back ≢ [] → reading front ≡ Err Short };
+
+    /// What is too long stays so, whatever follows it.
+    ghost too_long_stays: { (bytes more : List ℕ) → AreBytes bytes → reading bytes ≡ Err TooLong → reading (bytes ++ more) ≡ Err TooLong };
 }
 
 /// The number that the bytes begin with, and the length of its spelling.
@@ -124,6 +130,7 @@ impl Wire for u64 {
     ghost use Rattle.msg_codec.specs.Reading.{number_reading};
     ghost use Rattle.msg_codec.specs.Spelling.{spelled_number};
     ghost use Rattle.msg_codec.specs.Laws.{number_again, number_spelled};
+    ghost use Rattle.msg_codec.specs.Cut.{number_cut, number_long};
 
     ghost in_range = { λ n. n < 2 ^ 64 };
 
@@ -134,6 +141,10 @@ impl Wire for u64 {
     ghost read_again = { number_again };
 
     ghost read_spelled = { number_spelled };
+
+    ghost short_where_cut = { λ n front back _ whole some. number_cut n front back whole some };
+
+    ghost too_long_stays = { number_long };
 
     fn put(&self, into: &mut Vec<u8>) -> Result<(), AllocError> {
         into.extend_from_slice(&self.to_le_bytes())
@@ -150,6 +161,7 @@ impl Wire for Body {
     ghost use Rattle.msg_codec.specs.Reading.{body_reading};
     ghost use Rattle.msg_codec.specs.Spelling.{spelled_body};
     ghost use Rattle.msg_codec.specs.Laws.{body_again, body_spelled};
+    ghost use Rattle.msg_codec.specs.Cut.{body_cut, body_long};
 
     ghost in_range = { λ body. (length body ≤ 1048576) × AreBytes body };
 
@@ -160,6 +172,10 @@ impl Wire for Body {
     ghost read_again = { λ body rest fits. body_again body rest fits.0 };
 
     ghost read_spelled = { body_spelled };
+
+    ghost short_where_cut = { λ body front back fits whole some. body_cut body front back fits.0 whole some };
+
+    ghost too_long_stays = { body_long };
 
     fn put(&self, into: &mut Vec<u8>) -> Result<(), AllocError> {
         put_body(self.as_slice(), into)
@@ -175,6 +191,7 @@ impl<A: Wire, B: Wire> Wire for (A, B) {
     ghost use Rattle.std.specs.Prelude.{◌++◌};
     ghost use Rattle.msg_codec.specs.Reading.{pair_reading};
     ghost use Rattle.msg_codec.specs.Laws.{pair_again, pair_spelled};
+    ghost use Rattle.msg_codec.specs.Cut.{pair_cut, pair_long};
 
     ghost in_range = { λ pair. A.in_range pair.0 × B.in_range pair.1 };
 
@@ -185,6 +202,11 @@ impl<A: Wire, B: Wire> Wire for (A, B) {
     ghost read_again = { λ pair rest fits. pair_again A.reading B.reading pair.0 pair.1 (A.spelled pair.0) (B.spelled pair.1) rest (A.read_again pair.0 (B.spelled pair.1 ++ rest) fits.0) (B.read_again pair.1 rest fits.1) };
 
     ghost read_spelled = { pair_spelled A.reading B.reading A.in_range B.in_range A.spelled B.spelled A.read_spelled B.read_spelled };
+
+    ghost short_where_cut = { λ pair front back fits whole some. pair_cut A.reading B.reading pair.0 (A.spelled pair.0) (B.spelled pair.1) front back
+        (λ x y. A.short_where_cut pair.0 x y fits.0) (λ x y. B.short_where_cut pair.1 x y fits.1) (λ rest. A.read_again pair.0 rest fits.0) whole some };
+
+    ghost too_long_stays = { pair_long A.reading B.reading A.in_range A.spelled A.too_long_stays B.too_long_stays A.read_again A.read_spelled };
 
     fn put(&self, into: &mut Vec<u8>) -> Result<(), AllocError> {
         let len = into.len();

@@ -1,5 +1,5 @@
 -- The links of all ranks in a row: one changes, and they stay what the logs say.
-use Rattle.std.proofs.Common.{◌≡◌, ℕ, ◌+◌, ◌*◌, ◌/◌, ◌%◌, ◌<◌, ◌≤◌, ◌||◌, Bool, true, false, nat_le, Option, Some, None, List, [], ◌∷◌, ◌++◌, length, drop, replicate, get_or, set, refl, sym, ap, ◌∙◌, subst, inl, inr, arith, length-set, MatchOption}
+use Rattle.std.proofs.Common.{◌≡◌, ℕ, ◌+◌, ◌*◌, ◌/◌, ◌%◌, ◌<◌, ◌||◌, Bool, true, false, nat_le, Option, Some, None, List, [], ◌∷◌, ◌++◌, length, drop, replicate, get_or, set, refl, sym, ap, ◌∙◌, subst, inl, inr, arith, length-set, MatchOption}
 use Rattle.std.proofs.lemmas.Bool.{cases_eq}
 use Rattle.std.proofs.lemmas.List.{get_or-map, get_or-set_same, get_or-set_other, get_or-replicate, length-map, length-replicate}
 use Rattle.std.proofs.lemmas.Nat.{div-mul-add, mod-mul-add, mul-add-lt}
@@ -7,7 +7,7 @@ use Rattle.msg_codec.specs.declared.letter.Letter.{Letter}
 use Rattle.ygm_route.specs.declared.scheme.Scheme.{Scheme}
 use Rattle.ygm_route.specs.Layout.{Shape}
 use Rattle.world_core.specs.declared.entry.Entry.TheVariants.{Put, Took}
-use Rattle.world_core.specs.Log.{batches_put, batches_taken}
+use Rattle.world_core.specs.Log.{batches_put}
 use Rattle.world_core.specs.Modest.{IsWorld}
 use Rattle.world_core.specs.Plain.{AreLinks, Kept, LinkGave, LinkGot, SameLinks, batches_at, batches_in, carried_by}
 use Rattle.world_core.specs.Rules.{first_broken}
@@ -78,14 +78,22 @@ module _ (world : Logs) (n : ℕ) (batches : List (List (List Letter))) (carried
     pub to_within : to < n
     to_within = ranks_within.1
 
+    inside : from < length world.logs
+    inside = omega (arith, links.sound.sound.all_ranks, links.ranks, from_within)
+
+    link_put : link (gaining world from (Put to letters)) from to ≡ link world from to ++ letters ∷ []
+    link_put = link_put_same world from to letters inside (prefix_length _ _ (links.sound.sound.agree from to))
+
+    -- what is put is the last of its link
+    pub last_put : (now : Logs) → now ≡ gaining world from (Put to letters) → link now from to ≡ link world from to ++ letters ∷ []
+    last_put now is = ap (λ w. link w from to) is ∙ link_put
+
     pub links_put : AreLinks (gaining world from (Put to letters)) n (set batches (from * n + to) (get_or batches (from * n + to) [] ++ letters ∷ [])) (set carried (from * n + to) (get_or carried (from * n + to) 0 + 1))
     links_put =
         let place : ℕ = from * n + to in
         let within : place < n * n = place_within n from to from_within to_within in
         let in_batches : place < length batches = omega (arith, links.all_links) in
         let in_counts : place < length carried = omega (arith, links.all_counts) in
-        let inside : from < length world.logs = omega (arith, links.sound.sound.all_ranks, links.ranks, from_within) in
-        let less : length (batches_taken from (log_of world to)) ≤ length (batches_put to (log_of world from)) = prefix_length _ _ (links.sound.sound.agree from to) in
         record {
           sound = honest_put_keeps world from to letters links.sound ok;
           ranks = links.ranks;
@@ -95,7 +103,7 @@ module _ (world : Logs) (n : ℕ) (batches : List (List (List Letter))) (carried
             | inl e ↦
                 let s = same_place n a b from to b_in to_within e in
                 rw (s.0, s.1, get_or-set_same batches place (get_or batches place [] ++ letters ∷ []) [] in_batches)
-                (ap (λ xs. xs ++ letters ∷ []) (links.held from to from_within to_within) ∙ sym (link_put_same world from to letters inside less))
+                (ap (λ xs. xs ++ letters ∷ []) (links.held from to from_within to_within) ∙ sym link_put)
             | inr other ↦ rw (get_or-set_other batches place (a * n + b) (get_or batches place [] ++ letters ∷ []) [] other)
                 (links.held a b a_in b_in ∙ sym (link_put_other world from to letters inside a b (λ p q. other (ap (λ x. x * n + b) p ∙ ap (λ y. from * n + y) q))))
           ];
@@ -176,12 +184,23 @@ module _ (world : Logs) (n : ℕ) (row : List Kept) (links : AreLinks world n (b
       ap (λ b. nat_le ring (length b) || nat_le most x.carried) (read_batches place x e is)
       ∙ ap (λ c. nat_le ring (length (link world from to)) || nat_le most c) (read_carried place x e is)
 
+  link_gave : (place : ℕ) (batch : List Letter) (new : List Kept) → place ≡ from * n + to → LinkGave place batch row new → link world from to ≡ batch ∷ drop 1 (batches_at row place)
+  link_gave place batch new e gave = sym (links.held from to from_within to_within) ∙ sym (ap (λ p. batches_at row p) e) ∙ gave.oldest
+
+  -- what a take gives is the oldest of its link
+  pub oldest_took : (place : ℕ) (batch : List Letter) (new : List Kept) (now : Logs) → place ≡ from * n + to → LinkGave place batch row new →
+      now ≡ taking world to from (link world from to) → link world from to ≡ batch ∷ link now from to
+  oldest_took place batch new now e gave log =
+      let there = link_gave place batch new e gave in
+      let inside : to < length world.logs = omega (arith, links.sound.sound.all_ranks, links.ranks, to_within) in
+      let left : link now from to ≡ drop 1 (link world from to) = ap (λ w. link w from to) (log ∙ ap (taking world to from) there) ∙ link_took_same world to from batch inside in
+      there ∙ ap (λ b. batch ∷ b) (sym (left ∙ ap (drop 1) there))
+
   -- after a take
   pub took_row : (place : ℕ) (batch : List Letter) (new : List Kept) (now : Logs) → place ≡ from * n + to → LinkGave place batch row new →
       now ≡ taking world to from (link world from to) → IsWorld now → (now ≡ gaining world to (Took from batch)) × AreLinks now n (batches_in new) (carried_by new)
   took_row place batch new now e gave log sound =
-      let there : batches_at row place ≡ link world from to = ap (λ p. batches_at row p) e ∙ links.held from to from_within to_within in
-      let is : now ≡ gaining world to (Took from batch) = log ∙ ap (taking world to from) (sym there ∙ gave.oldest) in
+      let is : now ≡ gaining world to (Took from batch) = log ∙ ap (taking world to from) (link_gave place batch new e gave) in
       let P : Logs → Type 0 = λ w. IsWorld w in
       let Q : Logs → Type 0 = λ w. AreLinks w n (batches_in new) (carried_by new) in
       let R : List (List (List Letter)) → Type 0 = λ b. AreLinks (gaining world to (Took from batch)) n b (carried_by new) in

@@ -1,6 +1,6 @@
 //! What keeps a world sound. Each law is the contract of a function that does nothing: a caller that calls
 //! it may rely on it. They speak of logs alone, whatever carries the letters.
-ghost use Rattle.std.specs.Prelude.{◌≡◌, ◌<◌, ℕ, List, [], ◌∷◌, None, Some, length, slice_get};
+ghost use Rattle.std.specs.Prelude.{◌≡◌, ℕ, List, [], ◌∷◌, None, Some, length, slice_get};
 ghost use Rattle.world_core.specs.Worked.{start, one, having_put};
 ghost use Rattle.world_core.specs.declared.entry.Event.TheVariants.{Put as PutEvent, Take};
 ghost use Rattle.world_core.specs.declared.why.Why.TheVariants.{NothingThere};

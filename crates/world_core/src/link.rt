@@ -1,5 +1,5 @@
 //! One link, and the links of all ranks in a row.
-ghost use Rattle.std.specs.Prelude.{◌≡◌, ◌<◌, ◌≤◌, ◌+◌, ◌-◌, ◌*◌, ◌^◌, ◌||◌, [], ◌∷◌, ◌++◌, ℕ, None, length, min, nat_le, OnOk, OnErr, IfErr, MatchOption, slice_index_or, slice_set};
+ghost use Rattle.std.specs.Prelude.{◌≡◌, ◌<◌, ◌≤◌, ◌+◌, ◌-◌, ◌*◌, ◌^◌, ◌||◌, [], ◌∷◌, ◌++◌, None, length, nat_le, OnOk, OnErr, IfErr, MatchOption};
 ghost use Rattle.world_core.specs.Modest.{IsWorld};
 ghost use Rattle.world_core.specs.Plain.{Counted, Kept, LinkGave, LinkGot, SameLinks, batches_at, carried_at};
 ghost use Rattle.world_core.specs.Rules.{first_broken};

@@ -1,9 +1,9 @@
 //! Links as plain lists on one thread.
-ghost use Rattle.std.specs.Prelude.{◌≡◌, ◌≢◌, ◌<◌, ◌≤◌, [], ℕ, true, None, IsTrue, IsNone, OnSome, IfErr, IfOk, ◌↔◌};
+ghost use Rattle.std.specs.Prelude.{◌≡◌, ◌≢◌, ◌<◌, ◌≤◌, [], ◌∷◌, ◌++◌, ℕ, true, None, IsTrue, IsNone, IfSome, OnSome, OnOk, IfErr, IfOk, ◌↔◌};
 ghost use Rattle.std.specs.List.{list_any};
 ghost use Rattle.world_core.specs.Modest.{IsModest, IsWorld};
 ghost use Rattle.world_core.specs.Plain.{Plain, fresh_links, is_full, is_stopped, told_by};
-ghost use Rattle.world_core.specs.Post.{FoundFull, ServesAll, SomeRaised, Told, is_full_in, link_in, local_at, SamePost, SameStops, SameFulls, SameMisses, batch_back, FullsAfter, MissesAfter, HaltsAfter, log_after_put, log_after_take};
+ghost use Rattle.world_core.specs.Post.{FoundFull, ServesAll, SomeRaised, is_full_in, link_in, local_at, SamePost, SameStops, SameFulls, SameMisses, batch_back, FullsAfter, MissesAfter, HaltsAfter, log_after_put, log_after_take};
 ghost use Rattle.world_core.specs.Rules.{first_broken};
 ghost use Rattle.world_core.specs.Rules.Deed.{Puts};
 ghost use Rattle.world_core.specs.World.{link};
@@ -37,7 +37,7 @@ impl Model for PlainLinks {
 
     ghost view = { λ l. record { world = l.world; ring = l.ring; batches = l.most; raised = l.raised.items; fulls = l.fulls.items; misses = l.misses.items; halts = l.halts } };
 
-    ghost invariant = { λ l. IsPost l.world l.ranks l.links.items l.raised.items l.fulls.items l.misses.items };
+    ghost invariant = { λ l. IsPost l.world l.ranks l.ring l.links.items l.raised.items l.fulls.items l.misses.items };
 }
 
 impl PlainLinks {
@@ -77,6 +77,14 @@ impl PlainLinks {
     {
         &self.world
     }
+
+    /// It does nothing. The world is sound, and a link may hold a batch at least.
+    pub fn holds(&self)
+        ensures sound { IsWorld self.now.world }
+        ensures room { 1 ≤ self.now.ring }
+    {
+        let _ = &self.ring;
+    }
 }
 
 /// Whether a rank raised the stop.
@@ -102,6 +110,8 @@ impl Post for PlainLinks {
         ensures halts { (told_by self.new).halts ≡ (told_by self.old).halts }
         ensures stops { SameStops (told_by self.old) (told_by self.new) }
         ensures same { SamePost here (told_by self.old) (told_by self.new) }
+        ensures last { OnOk result (link self.new.world here to ≡ link self.old.world here to ++ batch ∷ []) }
+        ensures sound { IsWorld self.new.world }
     {
         let place = place(self.ranks, here, to);
         if self.links[place].is_full(self.ring, self.most) {
@@ -137,6 +147,8 @@ impl Post for PlainLinks {
         ensures halts { (told_by self.new).halts ≡ (told_by self.old).halts }
         ensures stops { SameStops (told_by self.old) (told_by self.new) }
         ensures same { SamePost here (told_by self.old) (told_by self.new) }
+        ensures oldest { IfSome result (λ batch. link self.old.world from here ≡ batch ∷ link self.new.world from here) }
+        ensures sound { IsWorld self.new.world }
     {
         let place = place(self.ranks, from, here);
         match take_at(&mut self.links, place) {
@@ -151,13 +163,24 @@ impl Post for PlainLinks {
         }
     }
 
-    fn raise_stop(&mut self, here: u32) {
+    fn raise_stop(&mut self, here: u32)
+        requires { IsTrue ((told_by self.old).serves here) }
+        ensures raised { (told_by self.new).raised here ≡ true }
+        ensures others { (rank : ℕ) → rank ≢ here → (told_by self.new).raised rank ≡ (told_by self.old).raised rank }
+        ensures log { (told_by self.new).log here ≡ (told_by self.old).log here }
+        ensures fulls { SameFulls (told_by self.old) (told_by self.new) }
+        ensures misses { SameMisses (told_by self.old) (told_by self.new) }
+        ensures halts { (told_by self.new).halts ≡ (told_by self.old).halts }
+        ensures same { SamePost here (told_by self.old) (told_by self.new) }
+        ensures sound { IsWorld self.new.world }
+    {
         self.raised[here as usize] = true;
     }
 
     fn stopped(&mut self, here: u32) -> bool
         requires { IsTrue ((told_by self.old).serves here) }
         ensures stopped { result ≡ is_stopped self.old }
+        ensures sees_raised { (rank : ℕ) → IsTrue ((told_by self.old).serves rank) → (told_by self.old).raised rank ≡ true → result ≡ true }
         ensures sees_stop { result ≡ true → ServesAll (told_by self.old) → SomeRaised (told_by self.old) }
         ensures halts { HaltsAfter (told_by self.old) (told_by self.new) result }
         ensures log { (told_by self.new).log here ≡ (told_by self.old).log here }
@@ -165,6 +188,7 @@ impl Post for PlainLinks {
         ensures misses { SameMisses (told_by self.old) (told_by self.new) }
         ensures stops { SameStops (told_by self.old) (told_by self.new) }
         ensures same { SamePost here (told_by self.old) (told_by self.new) }
+        ensures sound { IsWorld self.new.world }
     {
         let stopped = is_raised(&self.raised);
         if stopped {

@@ -1,5 +1,5 @@
 //! A source that never fails.
-ghost use Rattle.std.specs.Prelude.{◌≡◌, ◌<◌, ◌≤◌, List, ℕ, length, take, drop, min, Some, IfOk, OnErr};
+ghost use Rattle.std.specs.Prelude.{◌≡◌, ◌<◌, ◌≤◌, length, take, drop, min, Some, IfOk, OnErr};
 ghost use Rattle.ygm_io.specs.Content.{TakenFrom, NothingLeft};
 
 use crate::unread::Unread;

@@ -1,5 +1,5 @@
 //! A source in memory.
-ghost use Rattle.std.specs.Prelude.{◌≡◌, ◌<◌, ◌≤◌, ◌↔◌, List, ℕ, length, take, drop, min, Some, IsErr, IfOk, OnOk, OnErr};
+ghost use Rattle.std.specs.Prelude.{◌≡◌, ◌<◌, ◌≤◌, ◌↔◌, length, take, drop, min, Some, IsErr, IfOk, OnOk, OnErr};
 ghost use Rattle.ygm_io.specs.Content.{TakenFrom, NothingLeft};
 ghost use Rattle.ygm_io.specs.Faults.{Rose};
 ghost use Rattle.ygm_io.specs.Plan.{fresh_plan, after_call, after_fault, NextFails};

@@ -33,7 +33,7 @@ impl<T> Named<T> {
     }
 }
 
-/// Adds a value under a name, in front of all that lie under it.
+/// Adds a value under a name. Of two under equal names `find_named` finds the one that was added later.
 pub fn add_named<T: Drop>(
     alloc: Global,
     added: &mut Vec<Named<T>>,

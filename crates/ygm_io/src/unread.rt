@@ -1,5 +1,5 @@
 //! Bytes that are read from the front.
-ghost use Rattle.std.specs.Prelude.{◌≡◌, ◌≤◌, ◌++◌, List, ℕ, length, take, drop, min, IfOk, vec_len};
+ghost use Rattle.std.specs.Prelude.{◌≡◌, ◌≤◌, ◌++◌, List, ℕ, length, take, drop, min, IfOk};
 
 use std::alloc::{AllocError, Global};
 use std::marker::Model;

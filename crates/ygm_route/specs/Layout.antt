@@ -1,6 +1,5 @@
 -- Ranks stand in rows: each node has the same number of cores, and each core runs one rank.
 use Rattle.std.specs.Prelude.{◌≡◌, ℕ, ◌+◌, ◌*◌, ◌/◌, ◌%◌, ◌<◌, ◌≤◌}
-use Rattle.ygm_route.specs.declared.TheConstants.{MAX_RANKS}
 
 -- how many ranks there are, and how many of them each node has
 pub record Shape : Type 0 where
@@ -10,7 +9,7 @@ pub record Shape : Type 0 where
 -- there are ranks, not too many of them, and they fill their nodes
 pub record IsLayout (layout : Shape) : Type 0 where
   pub some_rank : 1 ≤ layout.ranks
-  pub few_ranks : layout.ranks ≤ MAX_RANKS
+  pub few_ranks : layout.ranks ≤ 32
   pub some_core : 1 ≤ layout.cores
   pub full_nodes : layout.ranks % layout.cores ≡ 0
 

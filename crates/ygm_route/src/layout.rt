@@ -51,11 +51,11 @@ impl Layout {
         ensures ok { IfOk result (λ layout. layout ≡ record { ranks = ranks; cores = cores }) }
         ensures accepted { IsOk result ↔ IsLayout (record { ranks = ranks; cores = cores }) }
         ensures no_ranks { IsErrOf result LayoutFault.NoRanks ↔ (ranks ≡ 0) }
-        ensures too_many_ranks { IsErrOf result LayoutFault.TooManyRanks ↔ (MAX_RANKS < ranks) }
+        ensures too_many_ranks { IsErrOf result LayoutFault.TooManyRanks ↔ (32 < ranks) }
         ensures no_cores { IsErrOf result LayoutFault.NoCores ↔
-            ((1 ≤ ranks) × (ranks ≤ MAX_RANKS) × (cores ≡ 0)) }
+            ((1 ≤ ranks) × (ranks ≤ 32) × (cores ≡ 0)) }
         ensures uneven { IsErrOf result LayoutFault.Uneven ↔
-            ((1 ≤ ranks) × (ranks ≤ MAX_RANKS) × (1 ≤ cores) × (ranks % cores ≢ 0)) }
+            ((1 ≤ ranks) × (ranks ≤ 32) × (1 ≤ cores) × (ranks % cores ≢ 0)) }
     {
         if ranks == 0 {
             return Err(LayoutFault::NoRanks);

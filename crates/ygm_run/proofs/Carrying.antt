@@ -1,16 +1,17 @@
 -- Lines are sent, and letters run, while all lines stay on their way.
-use Rattle.std.proofs.Common.{◌≡◌, ◌≢◌, ℕ, ◌+◌, ◌<◌, ◌≤◌, ◌^◌, cond, eqb, List, [], ◌∷◌, ◌++◌, Some, length, map, set, suc, refl, sym, ap, ◌∙◌, subst, inl, inr, arith, slice_get, length-append, length-set, append-nil}
+use Rattle.std.proofs.Common.{◌≡◌, ◌≢◌, ℕ, ◌+◌, ◌<◌, ◌≤◌, ◌^◌, cond, eqb, false, zero, replicate, List, [], ◌∷◌, ◌++◌, Some, length, map, set, suc, refl, sym, ap, ◌∙◌, subst, inl, inr, arith, slice_get, length-append, length-set, append-nil}
 use Rattle.std.proofs.lemmas.List.{map-append, get_or-replicate}
 use Rattle.std.proofs.lemmas.List.Elements.{filter-append}
 use Rattle.std.proofs.lemmas.Bool.{cases_eq, cases_lt, eq-eqb, ne_eqb}
 use Rattle.std.proofs.lemmas.Option.{slice_get_within}
-use Rattle.std.specs.List.{AllByRecursion, filter}
+use Rattle.std.specs.List.{AllByRecursion, filter, list_any}
 use Rattle.msg_codec.specs.declared.letter.Letter.{Letter}
 use Rattle.ygm_route.specs.declared.scheme.Scheme.TheVariants.{Direct}
 use Rattle.ygm_route.specs.Layout.{Shape}
 use Rattle.world_core.specs.declared.entry.Entry.{Entry}
 use Rattle.world_core.specs.Pairs.{of_pair}
-use Rattle.world_core.specs.Plain.{Plain, fresh_links}
+use Rattle.world_core.specs.Plain.{Plain, fresh_links, is_stopped, told_by}
+use Rattle.world_core.specs.Post.{SameStops}
 use Rattle.world_core.specs.Sound.{IsPrefix, IsSound}
 use Rattle.world_core.specs.World.{log_of}
 use Rattle.world_core.proofs.Alone.{slice_get_end, slice_get_left}
@@ -19,6 +20,7 @@ use Rattle.comm_rank.specs.Rank.{Rank, fresh_rank, ran_at, ran_from, sent_to}
 use Rattle.comm_rank.specs.Settled.{AreRanks, AreSameRanks, HasAdvanced, HasRun}
 use Rattle.comm_rank.proofs.Sending.{agrees_fresh, no_letters}
 use Rattle.comm_rank.proofs.Settling.{ran_begins_always}
+use Rattle.comm_rank.proofs.Stops.{same_stopped}
 use Rattle.counting_set.specs.Counting.{Counts, counting_apply, add_letter}
 use Rattle.counting_set.specs.Owner.{owner_of_key}
 use Rattle.ygm_run.specs.Carried.{AreFresh, AreReady, Carried, IsQuietFrom, letters_of, sent_counts, with_line}
@@ -30,6 +32,10 @@ nothing_handed here n c [] = refl
 nothing_handed here n c (l ∷ ls) = nothing_handed here n (counting_apply c here n l).0 ls
 
 -- ---- the start
+
+none_raised : (n : ℕ) → list_any (λ raised. raised) (replicate n false) ≡ false
+none_raised zero = refl
+none_raised (suc n) = none_raised n
 
 module _ (layout : Shape) (ring batches : ℕ) (comms : List (Rank Counts)) (links : Plain) (all : length comms ≡ layout.ranks) (fresh : AreFresh layout comms) (none : links ≡ fresh_links layout Direct ring batches) where
   no_log : (rank : ℕ) (me : Rank Counts) → slice_get comms rank ≡ Some me → log_of links.world rank ≡ []
@@ -49,8 +55,8 @@ module _ (layout : Shape) (ring batches : ℕ) (comms : List (Rank Counts)) (lin
     few = λ r. omega arith;
   }
 
-  pub ready_at_first : 1 ≤ ring → 2 ^ 56 ≤ batches → AreReady comms links
-  ready_at_first room few = record {
+  pub ready_at_first : 2 ^ 56 ≤ batches → AreReady comms links
+  ready_at_first few = record {
     ranks = record {
       all = all ∙ sym (ap (λ (l : Plain). l.world.layout.ranks) none);
       each = λ rank me at. record {
@@ -61,9 +67,9 @@ module _ (layout : Shape) (ring batches : ℕ) (comms : List (Rank Counts)) (lin
         few = omega (arith, few, ap (λ (r : Rank Counts). r.most) (fresh rank me at), ap (λ (l : Plain). l.batches) none);
         agrees = rw (no_log rank me at, fresh rank me at) (agrees_fresh counting_apply (λ _. []) layout Direct rank (2 ^ 56) [] refl refl);
       };
-      room = omega (arith, room, ap (λ (l : Plain). l.ring) none);
     };
     most = λ rank me at. ap (λ (r : Rank Counts). r.most) (fresh rank me at);
+    calm = ap is_stopped none ∙ none_raised layout.ranks;
   }
 
 -- one fresh rank more
@@ -176,10 +182,11 @@ module _ (comms after : List (Rank Counts)) (old new : Plain) (same : length aft
     few = c.few;
   }
 
-  pub ready_settled : AreReady comms old → AreSameRanks comms after → AreRanks counting_apply (λ _. []) after new → AreReady after new
-  ready_settled ready ranks now = record {
+  pub ready_settled : AreReady comms old → AreSameRanks comms after → AreRanks counting_apply (λ _. []) after new → SameStops (told_by old) (told_by new) → AreReady after new
+  ready_settled ready ranks now stops = record {
     ranks = now;
     most = λ r a e. let b = there_too after comms r a e (sym same) in (ranks r b.0 a b.1 e).most ∙ ready.most r b.0 b.1;
+    calm = same_stopped old new stops ∙ ready.calm;
   }
 
   -- where all that a rank had sent ran, all that it has sent did

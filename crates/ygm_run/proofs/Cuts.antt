@@ -1,12 +1,10 @@
 -- Where the raw lines of bytes are cut.
 use Rattle.std.proofs.Common.{◌≡◌, ◌≢◌, ◌+◌, ◌<◌, ◌≤◌, ℕ, eqb, List, [], ◌∷◌, ◌++◌, length, false, cond, Some, refl, ap, ◌∙◌, arith, ⊎_elim}
 use Rattle.std.proofs.lemmas.List.Elements.{All-head, All-tail}
-use Rattle.std.proofs.lemmas.List.{append_assoc}
 use Rattle.std.proofs.lemmas.Bool.{lt-ltb}
 use Rattle.std.proofs.lemmas.Bool.Decides.{eqb_tells}
 use Rattle.std.specs.Option.{option_map}
 use Rattle.ygm_run.specs.Lines.{raw_lines, onto_first, LacksLf, StartsTooLong, first_too_long, max_line}
-use Rattle.ygm_run.specs.Pieces.{StartsWithLine}
 
 not_lf : (byte : ℕ) → byte ≢ 10 → eqb byte 10 ≡ false
 not_lf byte h = ⊎_elim (λ t. absurd (h t.1)) (λ f. f.0) (eqb_tells byte 10)
@@ -59,10 +57,3 @@ pub starts_too_long : (raw rest : List ℕ) → LacksLf raw → max_line < lengt
 starts_too_long raw rest h long =
     let front = first_len-front raw rest h in
     first_is_too_long (raw_lines (raw ++ rest)) (omega arith)
-
--- the lines of bytes that start with a line, whatever follows
-pub raw_lines-of_line : (bytes text held rest : List ℕ) (line : StartsWithLine bytes text held) → raw_lines (bytes ++ rest) ≡ line.raw ∷ raw_lines (held ++ rest)
-raw_lines-of_line bytes text held rest line =
-    ap (λ b. raw_lines (b ++ rest)) line.whole
-    ∙ ap raw_lines (append_assoc line.raw (10 ∷ held) rest)
-    ∙ raw_lines-at_lf line.raw (held ++ rest) line.partial

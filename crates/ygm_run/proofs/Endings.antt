@@ -1,7 +1,6 @@
 -- The cause of an ending, by other causes.
-use Rattle.std.proofs.Common.{◌≡◌, ℕ, zero, suc, ◌<◌, ◌≤◌, ◌^◌, cond, List, [], ◌∷◌, Some, None, Option, Result, Ok, Err, IfSome, length, map, take, get_or, slice_get, refl, ap, sym, ◌∙◌, subst, arith, inl, inr}
+use Rattle.std.proofs.Common.{◌≡◌, ℕ, zero, suc, ◌<◌, ◌≤◌, ◌^◌, List, [], ◌∷◌, Some, None, Option, Result, Ok, Err, IfSome, length, map, take, get_or, slice_get, refl, ap, sym, ◌∙◌, subst, arith, inl, inr}
 use Rattle.std.specs.Option.{option_map}
-use Rattle.std.proofs.lemmas.Bool.{cases_lt, le-ltb, lt-ltb}
 use Rattle.std.proofs.lemmas.List.{length-map}
 use Rattle.std.proofs.lemmas.List.Folds.{length-flat_map-take}
 use Rattle.std.proofs.lemmas.Option.{slice_get-map, slice_get_cases, slice_get_within, get_or_from_slice_get}
@@ -19,11 +18,12 @@ use Rattle.ygm_run.specs.Ending.{EndsBy, IsDoneIfMemory, IsFirstUnopened, IsNote
 use Rattle.comm_rank.specs.Fault.{IfCountFull}
 use Rattle.ygm_run.specs.Inputs.{AllRead, AreRests, IsFullAtRank, IsLowestFault, IsRead, IsRest, good_lines}
 use Rattle.ygm_run.specs.Job.{AreGood, AreTold, lines_of_each, most_letters}
-use Rattle.ygm_run.specs.Lines.{max_line, first_too_long, lines_of, raw_lines, text_of}
+use Rattle.ygm_run.specs.Lines.{first_too_long, lines_of, raw_lines, text_of}
 use Rattle.ygm_run.specs.Notes.{note_text}
 use Rattle.ygm_run.specs.Tally.{all_lines}
 use Rattle.ygm_run.specs.Words.{named}
 use Rattle.ygm_run.proofs.Feeding.{rest_none}
+use Rattle.ygm_run.proofs.GoodLines.{few_good}
 
 -- a rank's full count is the job's
 pub stops_full : (full : ℕ → ℕ → Type 0) (input : ℕ → InputFault → Type 0) (rank : ℕ) (fault : CommFault) (P : ℕ → Type 0) → ((limit : ℕ) → P limit → full rank limit) → IfCountFull fault P → StopsBy full input (fault_of rank fault)
@@ -37,6 +37,24 @@ ends_stopped refused unopened full input unwritten done (JobInput rank Read) p =
 ends_stopped refused unopened full input unwritten done (JobInput rank (Bad line why)) p = p
 ends_stopped refused unopened full input unwritten done (JobFull rank at) p = p
 ends_stopped refused unopened full input unwritten done JobNoMemory p = tt
+
+note_unnamed : (fault : JobFault) (told : Status) (names others : List (List ℕ)) → UnlessNoMemory told (told ≡ status_of fault) → note_text told names ≡ note_text told others
+note_unnamed fault Done names others same = refl
+note_unnamed fault (Usage kind) names others same = refl
+note_unnamed (JobInput rank Read) (OpenFault file) names others same = absurd cc
+note_unnamed (JobInput rank (Bad line why)) (OpenFault file) names others same = absurd cc
+note_unnamed (JobFull rank at) (OpenFault file) names others same = absurd cc
+note_unnamed JobNoMemory (OpenFault file) names others same = absurd cc
+note_unnamed fault (ReadFault rank) names others same = refl
+note_unnamed fault (BadLine rank line why) names others same = refl
+note_unnamed fault WriteFault names others same = refl
+note_unnamed fault NoMemory names others same = refl
+note_unnamed fault (CountFull rank at) names others same = refl
+
+-- the note of a job's fault has no file's name
+pub noted_unnamed : (fault : JobFault) (told : Status) (names others : List (List ℕ)) (before now : Told) (faults faults_now : ℕ) → UnlessNoMemory told (told ≡ status_of fault)
+    → IsNoted (note_text told names) before now faults faults_now → IsNoted (note_text told others) before now faults faults_now
+noted_unnamed fault told names others before now faults faults_now same noted = subst (λ text. IsNoted text before now faults faults_now) (note_unnamed fault told names others same) noted
 
 -- each cause by another
 pub ends_so : (r1 r2 : UsageKind → Type 0) (o1 o2 : ℕ → Type 0) (f1 f2 : ℕ → ℕ → Type 0) (i1 i2 : ℕ → InputFault → Type 0) (w1 w2 d1 d2 : Type 0)
@@ -156,14 +174,6 @@ module _ {S : Type 0} (left : S → Told) (count : S → ℕ) where
   run_nothing_left order content sources opening writing WriteFault ends = tt
   run_nothing_left order content sources opening writing NoMemory ends = tt
   run_nothing_left order content sources opening writing (CountFull rank at) ends = tt
-
--- good lines are lines
-few_good : (raws : List (List ℕ)) → length (good_lines raws) ≤ length raws
-few_good [] = omega arith
-few_good (raw ∷ raws) = elim (cases_lt max_line (length raw)) [
-  | inl long ↦ subst (λ w. length w ≤ length (raw ∷ raws)) (sym (ap (λ b. cond b [] (raw ∷ good_lines raws)) (lt-ltb max_line (length raw) long))) (omega arith)
-  | inr short ↦ subst (λ w. length w ≤ length (raw ∷ raws)) (sym (ap (λ b. cond b [] (raw ∷ good_lines raws)) (le-ltb max_line (length raw) short))) (omega (arith, few_good raws))
-]
 
 -- the lines of one file are among all
 few_lines : (bytes : List (List ℕ)) (rank : ℕ) (b : List ℕ) → slice_get bytes rank ≡ Some b → length (good_lines (raw_lines b)) ≤ length (all_lines (lines_of_each bytes))

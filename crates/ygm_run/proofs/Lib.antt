@@ -4,6 +4,7 @@ pub mod Counting
 pub mod Cuts
 pub mod Endings
 pub mod Feeding
+pub mod GoodLines
 pub mod InOrder
 pub mod Joining
 pub mod LineRows
@@ -15,6 +16,7 @@ pub mod Places
 pub mod Senders
 pub mod Shards
 pub mod Table
+pub mod Taken
 pub mod TallyRows
 pub mod Texts
 pub mod Told

@@ -1,5 +1,5 @@
 -- What the calls on a world of ranks do, from what the calls on its parts ensure.
-use Rattle.std.proofs.Common.{◌≡◌, ◌≢◌, ℕ, ◌+◌, ◌<◌, ◌≤◌, ◌^◌, false, List, [], ◌∷◌, ◌++◌, Some, Result, Ok, Err, OnOk, IfErr, IsErr, length, set, take, drop, suc, zero, add-one, get_or, sym, ap, ◌∙◌, subst, inl, inr, arith, slice_get, append-nil, length-set}
+use Rattle.std.proofs.Common.{◌≡◌, ◌≢◌, ℕ, ◌+◌, ◌<◌, ◌≤◌, ◌^◌, true, false, List, [], ◌∷◌, ◌++◌, Some, Result, Ok, Err, OnOk, IfErr, IsErr, refl, length, set, take, drop, suc, zero, add-one, get_or, sym, ap, ◌∙◌, subst, inl, inr, arith, slice_get, append-nil, length-set}
 use Rattle.std.specs.Option.{option_map}
 use Rattle.std.proofs.lemmas.Bool.{cases_eq, cases_lt, false≢true}
 use Rattle.std.proofs.lemmas.List.Concat.{flat_map-append}
@@ -9,12 +9,13 @@ use Rattle.std.proofs.Math.ListN.{drop_of_length-le}
 use Rattle.msg_codec.specs.declared.letter.Letter.{Letter}
 use Rattle.world_core.specs.declared.entry.Entry.{Entry}
 use Rattle.world_core.specs.Modest.{IsWorld}
-use Rattle.world_core.specs.Plain.{Plain}
+use Rattle.world_core.specs.Plain.{Plain, is_stopped, told_by}
+use Rattle.world_core.specs.Post.{SameStops}
 use Rattle.world_core.specs.World.{log_of}
 use Rattle.comm_rank.specs.Agrees.{Agrees}
 use Rattle.comm_rank.specs.declared.fault.CommFault.{CommFault}
 use Rattle.comm_rank.specs.declared.fault.CommFault.TheVariants.{CountFull, NoMemory, Stopped}
-use Rattle.comm_rank.specs.Fault.{GivesIfFull, IfCountFull, IsFullAt}
+use Rattle.comm_rank.specs.Fault.{GivesIfFull, IfStopped, IsFullAt}
 use Rattle.comm_rank.specs.Rank.{Rank, having_sent, sent_to}
 use Rattle.comm_rank.specs.Settled.{AreRanks, AreSameRanks, HasAdvanced, HasRun, IsRankOf}
 use Rattle.counting_set.specs.Counting.{Counts, counting_apply, add_letter}
@@ -76,7 +77,6 @@ module _ (n rank : ℕ) (comms : List (Rank Counts)) (links : Plain) (old now : 
                 subst (λ i. IsRankOf counting_apply (λ _. []) links i m) (sym x) (subst (IsRankOf counting_apply (λ _. []) links rank) same mine)
             | inr x ↦ ready.ranks.each r m (sym (set_other comms rank r now x) ∙ e)
           ];
-          room = ready.ranks.room;
         };
         most = λ r m e. elim (cases_eq r rank) [
           | inl x ↦
@@ -84,6 +84,7 @@ module _ (n rank : ℕ) (comms : List (Rank Counts)) (links : Plain) (old now : 
               sym (ap (λ (i : Rank Counts). i.most) same) ∙ ap (λ (i : Rank Counts). i.most) held ∙ ready.most rank old at
           | inr x ↦ ready.most r m (sym (set_other comms rank r now x) ∙ e)
         ];
+        calm = ready.calm;
       }
 
   pub count_before : get_or (sent_counts comms) rank 0 ≡ old.sent_count
@@ -107,11 +108,13 @@ module _ (n rank : ℕ) (comms : List (Rank Counts)) (links : Plain) (old now : 
 
 -- ---- a weak barrier
 
--- counting gives no letters, so that no count is full while letters run
-pub never_full : (fault : CommFault) → GivesIfFull counting_apply fault → IfCountFull fault (λ _. ⊥)
-never_full Stopped gave = tt
-never_full NoMemory gave = tt
-never_full (CountFull at) gave = absurd (omega (arith, gave.4))
+-- counting gives no letters, so that no count is full while letters run; and a stop would have been raised before
+pub for_memory : (r : Result (Unit {0}) CommFault) (links : Plain) → is_stopped links ≡ false → IfErr r (GivesIfFull counting_apply)
+    → IfErr r (λ fault. IfStopped fault (is_stopped links ≡ true)) → IfErr r (λ fault. fault ≡ NoMemory)
+for_memory (Ok u) links calm gave met = tt
+for_memory (Err Stopped) links calm gave met = absurd (false≢true (sym calm ∙ met))
+for_memory (Err (CountFull at)) links calm gave met = absurd (omega (arith, gave.4))
+for_memory (Err NoMemory) links calm gave met = refl
 
 -- a whole slice of a vector was written
 pub written_back : {X : Type 0} (len : ℕ) (xs ys : List X) → len ≡ length ys → length xs ≡ length ys → take len (xs ++ drop (length xs) ys) ≡ xs
@@ -120,11 +123,11 @@ written_back len xs ys all same =
     ∙ ap (take (length xs)) (append-nil xs) ∙ take-length xs
 
 pub has_settled : (r : Result (Unit {0}) CommFault) (caller : ℕ) (before after : List (Rank Counts)) (old new : Plain) → AreReady before old → length after ≡ length before → AreSameRanks before after
-    → OnOk r ((rank : ℕ) → HasAdvanced counting_apply before after old new rank) → OnOk r (HasRun before after old new caller) → OnOk r (AreRanks counting_apply (λ _. []) after new) → OnOk r (IsWorld new.world)
+    → OnOk r ((rank : ℕ) → HasAdvanced counting_apply before after old new rank) → OnOk r (HasRun before after old new caller) → OnOk r (AreRanks counting_apply (λ _. []) after new) → IsWorld new.world → OnOk r (SameStops (told_by old) (told_by new))
     → OnOk r (HasSettled caller before after old new)
-has_settled (Err e) caller before after old new ready same ranks advanced ran now sound = tt
-has_settled (Ok u) caller before after old new ready same ranks advanced ran now sound = record {
-  ready = ready_settled before after old new same advanced ready ranks now;
+has_settled (Err e) caller before after old new ready same ranks advanced ran now sound stops = tt
+has_settled (Ok u) caller before after old new ready same ranks advanced ran now sound stops = record {
+  ready = ready_settled before after old new same advanced ready ranks now stops;
   carried = λ own n c. carried_settled before after old new same advanced own n c;
   quiet = caller_quiet before after old new same advanced caller sound.sound now ran;
   stays = λ from quiet. stays_quiet before after old new same advanced from sound.sound now ready.ranks quiet;

@@ -1,10 +1,10 @@
 -- The lines of each rank on their way to the ranks that own them.
-use Rattle.std.specs.Prelude.{◌≡◌, ℕ, ◌<◌, ◌≤◌, ◌^◌, ◌==◌, List, [], ◌∷◌, ◌++◌, Some, length, map, filter, flat_map, slice_get, if◌then◌else◌}
+use Rattle.std.specs.Prelude.{◌≡◌, ℕ, ◌<◌, ◌≤◌, ◌^◌, ◌==◌, false, List, [], ◌∷◌, ◌++◌, Some, length, map, filter, flat_map, slice_get, if◌then◌else◌}
 use Rattle.std.specs.List.{AllByRecursion}
 use Rattle.msg_codec.specs.declared.letter.Letter.{Letter}
 use Rattle.ygm_route.specs.declared.scheme.Scheme.TheVariants.{Direct}
 use Rattle.ygm_route.specs.Layout.{Shape}
-use Rattle.world_core.specs.Plain.{Plain}
+use Rattle.world_core.specs.Plain.{Plain, is_stopped}
 use Rattle.world_core.specs.World.{log_of}
 use Rattle.comm_rank.specs.Rank.{Rank, fresh_rank, ran_from, sent_to}
 use Rattle.comm_rank.specs.Settled.{AreRanks}
@@ -19,10 +19,12 @@ letters_of ranks from to lines = map (add_letter to from) (filter (λ line. owne
 abbrev pub sent_counts : List (Rank Counts) → List ℕ
 sent_counts comms = map (λ (me : Rank Counts). me.sent_count) comms
 
--- all ranks of the links' world, each with its part of a counting set, which may go on and may send up to the limit
+-- all ranks of the links' world, each with its part of a counting set, which may go on and may send up to the limit;
+-- none has raised the stop
 pub record AreReady (comms : List (Rank Counts)) (links : Plain) : Type 0 where
   pub ranks : AreRanks counting_apply (λ _. []) comms links
   pub most : (rank : ℕ) (me : Rank Counts) → slice_get comms rank ≡ Some me → me.most ≡ 2 ^ 56
+  pub calm : is_stopped links ≡ false
 
 -- each rank has sent and run nothing
 abbrev pub AreFresh : Shape → List (Rank Counts) → Type 0

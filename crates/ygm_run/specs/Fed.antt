@@ -1,8 +1,7 @@
 -- Lines of a rank's input that were given to the world.
-use Rattle.std.specs.Prelude.{◌≡◌, ℕ, ◌+◌, ◌-◌, ◌*◌, ◌≤◌, ◌^◌, ◌==◌, List, ◌∷◌, ◌++◌, Option, None, Some, IfSome, length, map, if◌then◌else◌, []}
+use Rattle.std.specs.Prelude.{◌≡◌, ℕ, ◌+◌, ◌-◌, ◌*◌, ◌≤◌, ◌^◌, ◌==◌, List, ◌++◌, Option, None, Some, IfSome, length, map, if◌then◌else◌, []}
 use Rattle.std.specs.List.{AllByRecursion}
-use Rattle.std.specs.Option.{option_map}
-use Rattle.ygm_io.specs.Content.{Told, NothingLeft}
+use Rattle.ygm_io.specs.Content.{Told, TakenFrom, NothingLeft}
 use Rattle.ygm_io.specs.Faults.{Rose}
 use Rattle.world_core.specs.Plain.{Plain}
 use Rattle.comm_rank.specs.Rank.{Rank}
@@ -10,23 +9,25 @@ use Rattle.counting_set.specs.Counting.{Counts}
 use Rattle.ygm_run.specs.declared.status.InputFault.{InputFault}
 use Rattle.ygm_run.specs.declared.status.InputFault.TheVariants.{Read, Bad}
 use Rattle.ygm_run.specs.Carried.{Carried}
-use Rattle.ygm_run.specs.Lines.{max_line, lines_of, text_of, StartsTooLong}
+use Rattle.ygm_run.specs.Lines.{max_line, lines_of, raw_lines, text_of, LacksLf, StartsTooLong}
 use Rattle.ygm_run.specs.Reading.{Reading}
-use Rattle.ygm_run.specs.Turns.{raw_lines_to_come, to_come}
+use Rattle.ygm_run.specs.Turns.{PieceBehind, RawLineTaken, to_come}
 
 -- the same lines, and more of a rank
 abbrev pub with_lines : (ℕ → List (List ℕ)) → ℕ → List (List ℕ) → ℕ → List (List ℕ)
 with_lines own rank lines other = if other == rank then own other ++ lines else own other
 
--- the first of the lines before are gone
-abbrev pub FrontTaken : List (List ℕ) → Option (List (List ℕ)) → Option (List (List ℕ)) → Type 0
-FrontTaken front before now = before ≡ option_map (λ lines. front ++ lines) now
+-- these raw lines are gone from the front of the bytes, and go before those of any front of what is to come still
+pub record LinesTaken (raws : List (List ℕ)) (before now : Told) : Type 0 where
+  pub given : List ℕ
+  pub taken : TakenFrom given before now
+  pub lines : (front later : List ℕ) → now ≡ Some (front ++ later) → raw_lines (given ++ front) ≡ raws ++ raw_lines front
 
 -- The world was given lines of a rank: they are on their way, and were the first that were to come. None was too long.
 pub record Fed (ranks rank : ℕ) (before after : List (Rank Counts)) (old new : Plain) (reader reader_now : Reading) (left left_now : Told) : Type 0 where
   pub raws : List (List ℕ)
   pub carried : (own : ℕ → List (List ℕ)) → Carried own ranks before old → Carried (with_lines own rank (map text_of raws)) ranks after new
-  pub taken : FrontTaken raws (raw_lines_to_come reader.held left) (raw_lines_to_come reader_now.held left_now)
+  pub taken : LinesTaken raws (to_come reader.held left) (to_come reader_now.held left_now)
   pub short : AllByRecursion (λ raw. length raw ≤ max_line) raws
   pub given : reader_now.given ≡ reader.given + length raws
 
@@ -34,16 +35,16 @@ pub record Fed (ranks rank : ℕ) (before after : List (Rank Counts)) (old new :
 abbrev pub turns_left : ℕ → List ℕ → ℕ
 turns_left sent held = (2 ^ 56 - sent) * 2000000 + (1000000 - length held)
 
--- Why the reading of an input ended: all of it was read, a read failed, or the next line has too many bytes. The counts
--- are the source's of faults, before and now.
+-- Why the reading of an input ended: all of it was read, a read failed with no bad line held, or the piece that was read
+-- last made the next line too long. The counts are the source's of faults, before and now.
 abbrev pub EndedWith : Option InputFault → Reading → Told → ℕ → ℕ → Type 0
 EndedWith None reader left faults faults_now = (reader.held ≡ []) × NothingLeft left × (faults_now ≡ faults)
-EndedWith (Some Read) reader left faults faults_now = Rose faults faults_now
-EndedWith (Some (Bad line why)) reader left faults faults_now = IfSome (to_come reader.held left) StartsTooLong × (line ≡ reader.given + 1) × (faults_now ≡ faults)
+EndedWith (Some Read) reader left faults faults_now = Rose faults faults_now × LacksLf reader.held × (length reader.held ≤ max_line)
+EndedWith (Some (Bad line why)) reader left faults faults_now = IfSome (to_come reader.held left) StartsTooLong × (line ≡ reader.given + 1) × (faults_now ≡ faults) × (before : List ℕ) × PieceBehind before reader.held
 
 -- a line is to come that has no more bytes than a line may have
-abbrev pub HasLine : Option (List (List ℕ)) → Type 0
-HasLine lines = (raw : List ℕ) × (rest : Option (List (List ℕ))) × (length raw ≤ max_line) × (lines ≡ option_map (λ later. raw ∷ later) rest)
+abbrev pub HasLine : Told → Type 0
+HasLine bytes = (text : List ℕ) × (rest : Told) × RawLineTaken text bytes rest
 
 -- The lines of a rank's bytes are on their way, all of them where the input has no fault.
 pub record IsSent (ranks rank : ℕ) (before after : List (Rank Counts)) (old new : Plain) (left : Told) (fault : Option InputFault) : Type 0 where

@@ -1,8 +1,10 @@
 -- How the files of the ranks were read, and which of their faults is told.
-use Rattle.std.specs.Prelude.{◌≡◌, ◌↔◌, ℕ, ◌<◌, ◌^◌, List, [], ◌∷◌, Option, None, Some, IfSome, length, nat_lt, slice_get, if◌then◌else◌}
+use Rattle.std.specs.Prelude.{◌≡◌, ◌↔◌, ℕ, ◌<◌, ◌≤◌, ◌^◌, List, [], ◌∷◌, ◌++◌, Option, None, Some, IfSome, length, nat_lt, slice_get, if◌then◌else◌}
 use Rattle.ygm_io.specs.Content.{Told, TakenFrom, NothingLeft}
+use Rattle.ygm_run.specs.declared.pieces.TheConstants.{READING_SPACE}
 use Rattle.ygm_run.specs.declared.status.InputFault.{InputFault}
 use Rattle.ygm_run.specs.declared.status.InputFault.TheVariants.{Read, Bad}
+use Rattle.ygm_run.specs.declared.status.LineWhy.{LineWhy}
 use Rattle.ygm_run.specs.Lines.{max_line, raw_lines, first_too_long}
 
 -- what is left of what was held: some front of it is gone
@@ -15,6 +17,11 @@ bad_line None = None
 bad_line (Some Read) = None
 bad_line (Some (Bad line why)) = Some line
 
+-- the raw lines before the first that has too many bytes
+abbrev pub good_lines : List (List ℕ) → List (List ℕ)
+good_lines [] = []
+good_lines (raw ∷ raws) = if nat_lt max_line (length raw) then [] else raw ∷ good_lines raws
+
 -- A file was read to its end or to its first fault: what it held, what is left of it, its count of faults, and that fault.
 pub record IsRead (held left : Told) (count : ℕ) (fault : Option InputFault) : Type 0 where
   -- a read of it failed exactly where its count is above 0
@@ -23,11 +30,13 @@ pub record IsRead (held left : Told) (count : ℕ) (fault : Option InputFault) :
   pub bad : count ≡ 0 → IfSome held (λ bytes. bad_line fault ≡ first_too_long (raw_lines bytes))
   -- without a fault nothing is left
   pub to_its_end : fault ≡ None → NothingLeft left
-
--- the raw lines before the first that has too many bytes
-abbrev pub good_lines : List (List ℕ) → List (List ℕ)
-good_lines [] = []
-good_lines (raw ∷ raws) = if nat_lt max_line (length raw) then [] else raw ∷ good_lines raws
+  -- what was read before a read failed has no bad line
+  pub before_read : fault ≡ Some Read → (front : List ℕ) × TakenFrom front held left × (first_too_long (raw_lines front) ≡ None)
+  -- what was read before the piece that made a line bad has no bad line, and nothing was read behind that piece
+  pub stops : (line : ℕ) (why : LineWhy) → fault ≡ Some (Bad line why) → (front piece : List ℕ) × (length piece ≤ READING_SPACE)
+      × TakenFrom (front ++ piece) held left × (first_too_long (raw_lines front) ≡ None)
+  -- where no read failed, no more lines stand before a bad one than a rank sends letters
+  pub few : count ≡ 0 → IfSome held (λ bytes. length (good_lines (raw_lines bytes)) ≤ 2 ^ 56)
 
 -- A rank's count of letters is full, with the limit that its counter gave: its file, which held this and has this count
 -- of faults, gives more lines before a bad one than a rank sends letters.

@@ -1,12 +1,13 @@
 -- What a turn of a reader answers, and what is to come before and after it.
-use Rattle.std.specs.Prelude.{◌≡◌, ℕ, ◌++◌, List, ◌∷◌, length, ◌≤◌, Bool, true, false, Option, Result, Ok, Err, ⊤}
+use Rattle.std.specs.Prelude.{◌≡◌, ◌⊎◌, ℕ, ◌++◌, List, [], ◌∷◌, length, ◌<◌, ◌≤◌, Bool, true, false, Option, Result, Ok, Err, ⊤}
 use Rattle.std.specs.Option.{option_map}
-use Rattle.ygm_io.specs.Content.{Told}
+use Rattle.ygm_io.specs.Content.{Told, TakenFrom, NothingLeft}
 use Rattle.ygm_run.specs.declared.line_reader.Got.{Got}
 use Rattle.ygm_run.specs.declared.line_reader.Got.TheVariants.{Line, More, End}
 use Rattle.ygm_run.specs.declared.line_reader.LineFault.{LineFault}
 use Rattle.ygm_run.specs.declared.line_reader.LineFault.TheVariants.{ReadFault, LineTooLong, NoMemory}
-use Rattle.ygm_run.specs.Lines.{raw_lines, lines_of, text_of, max_line}
+use Rattle.ygm_run.specs.declared.pieces.TheConstants.{READING_SPACE}
+use Rattle.ygm_run.specs.Lines.{lines_of, text_of, max_line, LacksLf}
 
 -- what a turn answers
 abbrev pub Answer : Type 0
@@ -16,11 +17,7 @@ Answer = Result Got LineFault
 abbrev pub to_come : List ℕ → Told → Told
 to_come held left = option_map (λ rest. held ++ rest) left
 
--- the raw lines of these bytes, where they are told
-abbrev pub raw_lines_to_come : List ℕ → Told → Option (List (List ℕ))
-raw_lines_to_come held left = option_map (λ rest. raw_lines (held ++ rest)) left
-
--- their texts
+-- the lines of these bytes, where they are told
 abbrev pub lines_to_come : List ℕ → Told → Option (List (List ℕ))
 lines_to_come held left = option_map (λ rest. lines_of (held ++ rest)) left
 
@@ -28,12 +25,29 @@ lines_to_come held left = option_map (λ rest. lines_of (held ++ rest)) left
 abbrev pub FirstTaken : List ℕ → Option (List (List ℕ)) → Option (List (List ℕ)) → Type 0
 FirstTaken line before now = before ≡ option_map (λ lines. line ∷ lines) now
 
--- a raw line of this text was the first, and had no more bytes than a line may have
-pub record RawLineTaken (text : List ℕ) (before now : Option (List (List ℕ))) : Type 0 where
+-- the raw line stood at the front with its LF behind it, or was all that was to come
+abbrev pub CutOff : List ℕ → Told → Told → Type 0
+CutOff raw before now = TakenFrom (raw ++ 10 ∷ []) before now ⊎ ((0 < length raw) × TakenFrom raw before now × NothingLeft now)
+
+-- a raw line of this text is gone from the bytes that are to come, and had no more bytes than a line may have
+pub record RawLineTaken (text : List ℕ) (before now : Told) : Type 0 where
   pub raw : List ℕ
   pub text_is : text ≡ text_of raw
   pub short : length raw ≤ max_line
-  pub taken : FirstTaken raw before now
+  pub partial : LacksLf raw
+  pub cut : CutOff raw before now
+
+-- at most a piece is gone from the front of what was left
+abbrev pub PieceTaken : Told → Told → Type 0
+PieceTaken before now = (piece : List ℕ) × TakenFrom piece before now × (length piece ≤ READING_SPACE)
+
+-- a piece went behind bytes in which no line ends, and which were no more than a line may have
+pub record PieceBehind (before now : List ℕ) : Type 0 where
+  pub piece : List ℕ
+  pub behind : now ≡ before ++ piece
+  pub one : length piece ≤ READING_SPACE
+  pub partial : LacksLf before
+  pub short : length before ≤ max_line
 
 -- a fact of the line that was given
 abbrev pub IfLine : Answer → (List ℕ → Type 0) → Type 0

@@ -1,7 +1,6 @@
 -- What the program's words ask for, and why they are refused. A word is the list of its bytes.
 use Rattle.std.specs.Prelude.{ℕ, List, [], ◌∷◌, Result, Ok, Err, String, bytes_eq, codes, length, map, nat_eq, nat_lt, ◌==◌, string_bytes, if◌then◌else◌}
 use Rattle.std.specs.List.{starts_with}
-use Rattle.ygm_run.specs.declared.words.TheConstants.{MAX_RANKS}
 use Rattle.ygm_run.specs.declared.words.UsageKind.{UsageKind}
 use Rattle.ygm_run.specs.declared.words.UsageKind.TheVariants.{NoJob, UnknownJob, UnknownOption, NoFile, TooManyRanks}
 
@@ -25,12 +24,12 @@ files_of (word ∷ words) =
     else if starts_with nat_eq word (codes "--") then Err UnknownOption
     else Ok (word ∷ words)
 
--- the files of which there is one at least, and one for each rank at most
+-- the files of which there is one at least, and one for each of 32 ranks at most
 abbrev pub with_ranks : Result (List (List ℕ)) UsageKind → Result (List (List ℕ)) UsageKind
 with_ranks (Err kind) = Err kind
 with_ranks (Ok files) =
     if length files == 0 then Err NoFile
-    else if nat_lt MAX_RANKS (length files) then Err TooManyRanks
+    else if nat_lt 32 (length files) then Err TooManyRanks
     else Ok files
 
 -- the files that words give to the job tally, or the first refusal that holds

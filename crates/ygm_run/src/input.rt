@@ -4,7 +4,7 @@ ghost use Rattle.comm_rank.specs.Fault.{IfCountFull};
 ghost use Rattle.ygm_run.specs.Carried.{AreReady, sent_counts};
 ghost use Rattle.ygm_run.specs.Fed.{EndedWith, Fed, HasLine, IsSent, turns_left};
 ghost use Rattle.ygm_run.specs.Inputs.{IsFull, IsRead, IsRest};
-ghost use Rattle.ygm_run.specs.Turns.{raw_lines_to_come};
+ghost use Rattle.ygm_run.specs.Turns.{to_come};
 
 use crate::line_reader::{Got, LineFault, LineReader};
 use crate::status::{InputFault, LineWhy};
@@ -38,7 +38,7 @@ fn take_turn<S: Source>(
     ensures ended { IfOk result (λ fault. reader.new.done ≡ true → EndedWith fault reader.new (S.left source.new) (S.faults source.old) (S.faults source.new)) }
     ensures going_on { OnOk result (reader.new.done ≡ false → S.faults source.new ≡ S.faults source.old) }
     ensures full { IfErr result (λ fault. IfCountFull fault (λ limit. (limit ≡ 2 ^ 56) × (2 ^ 56 ≤ slice_index (sent_counts world.old.comms.items) rank)
-        × (S.faults source.new ≡ S.faults source.old) × HasLine (raw_lines_to_come reader.old.held (S.left source.old)))) }
+        × (S.faults source.new ≡ S.faults source.old) × HasLine (to_come reader.old.held (S.left source.old)))) }
     ensures rest { IsRest (S.left source.old) (S.left source.new) }
     ensures ranks { world.new.ranks ≡ world.old.ranks }
 {

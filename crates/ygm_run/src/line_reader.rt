@@ -2,9 +2,8 @@
 ghost use Rattle.std.specs.Prelude.{◌≡◌, ◌+◌, ◌-◌, ◌^◌, ◌<◌, ◌≤◌, [], length, min, false, is_some, Some, IfSome, IfOk, IsErrOf};
 ghost use Rattle.ygm_io.specs.Content.{NothingLeft};
 ghost use Rattle.ygm_io.specs.Faults.{Rose};
-ghost use Rattle.ygm_run.specs.Inputs.{IsRest};
 ghost use Rattle.ygm_run.specs.Lines.{LacksLf, StartsTooLong, max_line};
-ghost use Rattle.ygm_run.specs.Turns.{FirstTaken, RawLineTaken, IfLine, OnLine, UnlessLine, OnMore, OnEnd, IfTooLong, UnlessReadFault, EndsOrFails, is_last, to_come, raw_lines_to_come, lines_to_come};
+ghost use Rattle.ygm_run.specs.Turns.{FirstTaken, PieceBehind, PieceTaken, RawLineTaken, IfLine, OnLine, UnlessLine, OnMore, OnEnd, IfTooLong, UnlessReadFault, EndsOrFails, is_last, to_come, lines_to_come};
 
 pub use crate::pieces::READING_SPACE;
 use crate::pieces::{Pieces, TooLong};
@@ -121,7 +120,7 @@ impl LineReader {
         ensures line { IfLine result (λ line.
             FirstTaken line (lines_to_come self.old.held (S.left source.old)) (lines_to_come self.new.held (S.left source.new))) }
         ensures raw_line { IfLine result (λ line.
-            RawLineTaken line (raw_lines_to_come self.old.held (S.left source.old)) (raw_lines_to_come self.new.held (S.left source.new))) }
+            RawLineTaken line (to_come self.old.held (S.left source.old)) (to_come self.new.held (S.left source.new))) }
         ensures line_counted { OnLine result (self.new.given ≡ min (self.old.given + 1) (2 ^ 64 - 1)) }
         ensures line_bound { OnLine result (length self.new.held ≤ READING_SPACE) }
 
@@ -143,16 +142,21 @@ impl LineReader {
         ensures too_long { IfTooLong result (λ line. StartsTooLong self.new.held) }
         ensures too_long_to_come { IfTooLong result (λ line.
             IfSome (to_come self.old.held (S.left source.old)) StartsTooLong) }
+        // The piece that this turn read made it so.
+        ensures too_long_by_a_piece { IfTooLong result (λ line. PieceBehind self.old.held self.new.held) }
         ensures too_long_number { IfTooLong result (λ line. line ≡ min (self.old.given + 1) (2 ^ 64 - 1)) }
 
         ensures cause { IsErrOf result LineFault.ReadFault → Rose (S.faults source.old) (S.faults source.new) }
+        // What was read before the fault has no other whole line, and none that is too long.
+        ensures read_fault_is_partial { IsErrOf result LineFault.ReadFault →
+            LacksLf self.new.held × (length self.new.held ≤ max_line) }
         ensures faults_stand { UnlessReadFault result (S.faults source.new ≡ S.faults source.old) }
         ensures never_falls { S.faults source.old ≤ S.faults source.new }
         ensures no_memory { IsErrOf result LineFault.NoMemory → self.new ≡ self.old }
         ensures no_memory_source { IsErrOf result LineFault.NoMemory → source.new ≡ source.old }
         ensures done { self.new.done ≡ is_last result }
         // At most a piece of what is left was taken, from its front.
-        ensures rest { IsRest (S.left source.old) (S.left source.new) }
+        ensures rest { PieceTaken (S.left source.old) (S.left source.new) }
         ensures tells { is_some (S.left source.new) ≡ is_some (S.left source.old) }
     {
         if let Some(text) = self.pieces.whole_line()? {

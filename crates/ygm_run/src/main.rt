@@ -1,6 +1,8 @@
 //! The program `ygm_run`: jobs over ranks that count, group and walk large data.
 #![tactic(auto)]
 
+ghost use Rattle.std.specs.Prelude.{◌≡◌, ◌⊎◌, IfErr};
+
 mod input;
 pub mod line_reader;
 pub mod note;
@@ -28,7 +30,9 @@ const BAD_WORDS: (&str, u8) = ("a word is no text", 1);
 const NO_MEMORY: (&str, u8) = ("out of memory", 6);
 
 // The words behind the program's name.
-fn words_of(rt: &(impl Env + AllocGlobal)) -> Result<Vec<String>, (&'static str, u8)> {
+fn words_of(rt: &(impl Env + AllocGlobal)) -> Result<Vec<String>, (&'static str, u8)>
+    ensures number { IfErr result (λ refusal. (refusal.1 ≡ 1) ⊎ (refusal.1 ≡ 6)) }
+{
     let args = match env::args(rt) {
         Ok(args) => args,
         Err(error) if error.kind() == ErrorKind::OutOfMemory => return Err(NO_MEMORY),

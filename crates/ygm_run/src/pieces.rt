@@ -74,6 +74,7 @@ impl Pieces {
         ensures open { AreOpen self.new }
         ensures same { held_in self.new ≡ held_in self.old }
         ensures gathered { OnOk result (AreGathered self.new) }
+        ensures short { OnOk result (length (held_in self.new) ≤ max_line) }
     {
         let waiting = &self.buffer[self.start..self.end];
         self.carry.reserve(waiting.len() + READING_SPACE)?;

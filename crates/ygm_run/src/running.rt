@@ -98,10 +98,9 @@ fn write_text<O: Sink, N: Sink>(text: &[u8], out: &mut O, notes: &mut N) -> Stat
     }
 }
 
-// The text of the sources' lines goes to `out`, and how it ended to `notes`.
+// The text of the sources' lines goes to `out`, and how it ended to `notes`. No note of it has a file's name.
 fn finish<S: Source, O: Sink, N: Sink>(
     alloc: Global,
-    names: &[String],
     sources: &mut [S],
     out: &mut O,
     notes: &mut N,
@@ -119,11 +118,11 @@ fn finish<S: Source, O: Sink, N: Sink>(
         → FrontAppended (tally_text (lines_of_each bytes)) (O.holds out.old) (O.holds out.new)) }
     ensures nothing_written { UnlessWritten result (out.new ≡ out.old) }
     ensures rests { AreRests S.left (map S.left sources.old) sources.new }
-    ensures noted { IsNoted (note_text result (texts_of names.now)) (N.holds notes.old) (N.holds notes.new) (N.faults notes.old) (N.faults notes.new) }
+    ensures noted { (names : List (List ℕ)) → IsNoted (note_text result names) (N.holds notes.old) (N.holds notes.new) (N.faults notes.old) (N.faults notes.new) }
 {
     match tally(alloc, sources) {
         Ok(text) => write_text(&text, out, notes),
-        Err(fault) => tell(alloc, fault.status(), names, notes),
+        Err(fault) => tell(alloc, fault.status(), &[], notes),
     }
 }
 
@@ -154,7 +153,7 @@ fn run_tally<F: Files, O: Sink, N: Sink>(
         let status = tell(alloc, status, names, notes);
         return Ended { status, sources };
     }
-    let status = finish(alloc, names, &mut sources, out, notes);
+    let status = finish(alloc, &mut sources, out, notes);
     Ended { status, sources }
 }
 
@@ -199,7 +198,7 @@ pub fn run<F: Files, O: Sink, N: Sink>(
         → (Rose (F.faults files.old) (F.faults files.new) → ⊥) → (Rose (O.faults out.old) (O.faults out.new) → ⊥)
         → ((rank : ℕ) (source : F.Src) → slice_get result.sources.items rank ≡ Some source → F.Src.faults source ≡ 0)
         → IsDoneIfMemory result.status }
-    // The sources are those of the files in their order, at most one for each, and what is left of each is a rest of it.
+    // There are no more sources than files, and what is left of each is a rest of the file of its number.
     ensures sources { (names : List (List ℕ)) → order_of (texts_of words.now) ≡ Ok names
         → (length result.sources.items ≤ length names) × AreRests F.Src.left (map (F.content files.old) names) result.sources.items }
     ensures content_stands { (name : List ℕ) → F.content files.new name ≡ F.content files.old name }

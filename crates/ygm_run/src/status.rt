@@ -39,7 +39,7 @@ pub enum Status {
     Done,
     /// The words were refused.
     Usage { kind: UsageKind },
-    /// The first file, counted from 0, that couldn't be opened. None after it was opened.
+    /// The first file, counted from 0, that couldn't be opened. Tests show that none after it is tried.
     OpenFault { file: u32 },
     /// A read of the rank's file failed, and no rank below has a fault.
     ReadFault { rank: u32 },

@@ -44,7 +44,7 @@ impl JobFault {
     {
         match fault {
             CommFault::CountFull(at) => JobFault::CountFull { rank, at },
-            // A rank raises the stop where it ends the run, so that no other meets it.
+            // No call on a world answers it: a rank that raises the stop has ended the run.
             CommFault::Stopped => JobFault::NoMemory,
             CommFault::NoMemory => JobFault::NoMemory,
         }
@@ -106,7 +106,7 @@ pub(crate) fn tally<S: Source>(alloc: Global, sources: &mut [S]) -> Result<Vec<u
     read_all(alloc, &mut world, sources)?;
     match world.drain() {
         Ok(()) => Ok(world.text()?),
-        // A drain is refused for want of memory alone: no rank has raised the stop.
+        // A drain is refused for want of memory alone.
         Err(_) => Err(JobFault::NoMemory),
     }
 }

@@ -209,6 +209,51 @@ fn a_line_of_a_million_bytes_and_one_is_bad(rt: HostRuntime) -> Result<(), Fail>
     Ok(())
 }
 
+// A run over three files whose opens of these numbers fail ends at the file of the first, and fails but once.
+fn ends_at(rt: &(impl Abort + AllocGlobal), fails: &[u64], file: u32) -> Result<(), Fail> {
+    let mut files = two_files(rt.alloc(), &[])?;
+    files.add("f2", b"c\n", &[])?;
+    for call in fails {
+        files.fail_open(*call)?;
+    }
+    let out = MemSink::new(rt.alloc(), &[], 3)?;
+    let outcome = tally(rt.alloc(), &mut files, &["tally", "f0", "f1", "f2"], out)?;
+    assert_eq!(rt; outcome.ended.status, Status::OpenFault { file });
+    assert_eq!(rt; outcome.ended.sources.len(), file as usize);
+    assert_eq!(rt; files.faults(), 1);
+    Ok(())
+}
+
+#[test]
+fn no_open_is_tried_after_the_first_that_fails(rt: HostRuntime) -> Result<(), Fail> {
+    ends_at(&rt, &[0, 1, 2], 0)?;
+    ends_at(&rt, &[1, 2], 1)
+}
+
+#[test]
+fn no_read_is_tried_behind_a_bad_line(rt: HostRuntime) -> Result<(), Fail> {
+    let alloc = rt.alloc();
+    let mut bytes = vec![in alloc; b'x'; 1_000_001]?;
+    bytes.extend_from_slice(&vec![in alloc; b'\n'; 100_000]?)?;
+    let mut files = MemFiles::new(alloc);
+    files.add("f0", &bytes, &[16])?;
+    let out = MemSink::new(alloc, &[], 3)?;
+    let outcome = tally(alloc, &mut files, &["tally", "f0"], out)?;
+    let why = LineWhy::TooLong;
+    assert_eq!(rt;
+        outcome.ended.status,
+        Status::BadLine {
+            rank: 0,
+            line: 1,
+            why
+        }
+    );
+    assert_eq!(rt; outcome.ended.sources.len(), 1);
+    assert_eq!(rt; outcome.ended.sources[0].faults(), 0);
+    assert_eq!(rt; outcome.ended.sources[0].left().len(), 51_425);
+    Ok(())
+}
+
 #[test]
 fn the_fault_of_the_lowest_rank_is_told_and_the_others_read_on(
     rt: HostRuntime,

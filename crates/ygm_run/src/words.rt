@@ -23,7 +23,7 @@ pub enum UsageKind {
     UnknownOption,
     /// No word names a file.
     NoFile,
-    /// There are more files than ranks.
+    /// There would be more than 32 ranks, one for each file.
     TooManyRanks,
 }
 
@@ -58,7 +58,7 @@ pub fn read_words(words: &[String]) -> Result<Order<'_>, UsageKind>
         (λ order. order_of (texts_of words.now) ≡ Ok (texts_of order.names.now))
         (λ kind. order_of (texts_of words.now) ≡ Err kind) }
     ensures some { IfOk result (λ order. 1 ≤ length order.names.now) }
-    ensures few { IfOk result (λ order. length order.names.now ≤ MAX_RANKS) }
+    ensures few { IfOk result (λ order. length order.names.now ≤ 32) }
 {
     let [job, rest @ ..] = words else {
         return Err(UsageKind::NoJob);

@@ -1,7 +1,8 @@
 //! Ranks on one thread, each with its part of a counting set.
 ghost use Rattle.std.specs.Prelude.{◌≡◌, ◌<◌, ◌≤◌, ◌+◌, ◌^◌, ℕ, List, [], ◌++◌, length, slice_index, IfOk, IfErr, OnOk};
 ghost use Rattle.ygm_route.specs.declared.scheme.Scheme.TheVariants.{Direct};
-ghost use Rattle.comm_rank.specs.Fault.{IfCountFull, IsFullAt};
+ghost use Rattle.comm_rank.specs.declared.fault.CommFault.TheVariants.{NoMemory};
+ghost use Rattle.comm_rank.specs.Fault.{IsFullAt, NeverStopped};
 ghost use Rattle.ygm_run.specs.Carried.{AreFresh, AreReady, Carried, HasSettled, IsQuiet, kept, sent_counts, with_line};
 ghost use Rattle.ygm_run.specs.Tally.{AreCounts, all_lines, pairs_of, tally_text};
 
@@ -15,7 +16,7 @@ use ygm_route::{Layout, Scheme};
 /// How many letters a rank sends before what waits is run, so that few are on their way.
 const SETTLE_EVERY: u64 = 4096;
 
-/// How many batches a link holds: as many as are on their way, so that none is full.
+/// How many batches a link holds: as many as a rank sends before what waits is run.
 const RING: u32 = 4096;
 
 /// All ranks of a world, and the links between them.
@@ -77,17 +78,19 @@ impl World {
         ensures counted { OnOk result (slice_index (sent_counts self.new.comms.items) rank ≡ slice_index (sent_counts self.old.comms.items) rank + 1) }
         ensures bound { OnOk result (slice_index (sent_counts self.new.comms.items) rank ≤ 2 ^ 56) }
         ensures cause { IfErr result (IsFullAt (slice_index (sent_counts self.old.comms.items) rank) (2 ^ 56)) }
+        ensures never_stopped { IfErr result NeverStopped }
         ensures ranks { self.new.ranks ≡ self.old.ranks }
     {
         count_insert(self.alloc, &mut self.comms[rank as usize], line)
     }
 
-    // The weak barrier of one rank. A rank that failed had ended the run, so that none has raised the stop.
+    // The weak barrier of one rank. It is refused for want of memory alone: counting sends no letters, so that no count
+    // is full, and none has raised the stop, since a rank that fails ends the run.
     fn settle(&mut self, caller: u32) -> Result<(), CommFault>
         requires below { caller < self.old.ranks }
         requires ready { AreReady self.old.comms.items self.old.links }
         ensures settled { OnOk result (HasSettled caller self.old.comms.items self.new.comms.items self.old.links self.new.links) }
-        ensures never_full { IfErr result (λ fault. IfCountFull fault (λ _. ⊥)) }
+        ensures for_memory { IfErr result (λ fault. fault ≡ NoMemory) }
         ensures ranks { self.new.ranks ≡ self.old.ranks }
     {
         settle(&mut self.comms, &mut self.links, caller)
@@ -104,6 +107,7 @@ impl World {
         ensures counted { OnOk result (slice_index (sent_counts self.new.comms.items) rank ≡ slice_index (sent_counts self.old.comms.items) rank + 1) }
         ensures bound { OnOk result (slice_index (sent_counts self.new.comms.items) rank ≤ 2 ^ 56) }
         ensures cause { IfErr result (IsFullAt (slice_index (sent_counts self.old.comms.items) rank) (2 ^ 56)) }
+        ensures never_stopped { IfErr result NeverStopped }
         ensures ranks { self.new.ranks ≡ self.old.ranks }
     {
         self.insert(rank, line)?;
@@ -113,14 +117,14 @@ impl World {
         Ok(())
     }
 
-    /// Runs all that was sent. Counting sends no letters, so that no count is full then.
+    /// Runs all that was sent. It is refused for want of memory alone.
     pub(crate) fn drain(&mut self) -> Result<(), CommFault>
         requires ready { AreReady self.old.comms.items self.old.links }
         ensures ready { OnOk result (AreReady self.new.comms.items self.new.links) }
         ensures carried { OnOk result ((own : ℕ → List (List ℕ)) → Carried own self.old.ranks self.old.comms.items self.old.links
             → Carried own self.old.ranks self.new.comms.items self.new.links) }
         ensures quiet { OnOk result (IsQuiet self.new.comms.items self.new.links) }
-        ensures never_full { IfErr result (λ fault. IfCountFull fault (λ _. ⊥)) }
+        ensures for_memory { IfErr result (λ fault. fault ≡ NoMemory) }
         ensures ranks { self.new.ranks ≡ self.old.ranks }
     {
         for caller in 0..self.ranks {

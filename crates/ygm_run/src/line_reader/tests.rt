@@ -155,6 +155,22 @@ fn lines_before_a_fault_of_reading_are_given(rt: HostRuntime) -> Result<(), Fail
 }
 
 #[test]
+fn a_turn_reads_at_most_once(rt: HostRuntime) -> Result<(), Fail> {
+    let mut source = Pieced::new(b"ab\nc", 1, 0);
+    let mut reader = LineReader::new(rt.alloc())?;
+    for _ in 0..TURNS {
+        if reader.done() {
+            break;
+        }
+        let before = source.reads;
+        reader.turn(&mut source)?;
+        assert!(rt; source.reads <= before.saturating_add(1));
+    }
+    assert!(rt; reader.done());
+    Ok(())
+}
+
+#[test]
 fn the_end_is_the_last_answer(rt: HostRuntime) -> Result<(), Fail> {
     let mut source = Pieced::new(b"a", 1, 0);
     let mut reader = LineReader::new(rt.alloc())?;

@@ -1,8 +1,11 @@
 use Rattle.std.proofs.Common.{◌≡◌, ◌||◌, ◌+◌, ◌∙◌, ℕ, Bool, refl, subst, arith, rules}
 use Rattle.std.proofs.lemmas.Result.{IfErr-weaker}
+use Rattle.world_core.specs.World.{log_of}
+use Rattle.world_core.proofs.Lists.{prefix_refl}
 use Rattle.comm_rank.specs.Settled.{RoundMoves}
-use Rattle.comm_rank.proofs.Advancing.{failed_later, has_advanced_more, has_advanced_none, same_links_more, same_links_none, same_ranks_more, same_ranks_none}
+use Rattle.comm_rank.proofs.Advancing.{failed_later, has_advanced_more, has_advanced_none, logs_grow_more, same_links_more, same_links_none, same_ranks_more, same_ranks_none}
 use Rattle.comm_rank.proofs.Rounds.{or_else, or_then, round_begins, turn_more}
+use Rattle.comm_rank.proofs.Stops.{same_stops_more, stopped_earlier}
 use Rattle.comm_rank.proofs.barrier.round.Goals as goal
 use Rattle.comm_rank.proofs.barrier.round.Goals.{then-moved, else-moved}
 
@@ -12,8 +15,10 @@ loop-rank-init g c = record {
   advanced = has_advanced_none g.H.Handler.apply c.args.comms.now c.args.links.now;
   ranks = c.requires.ranks;
   halts = refl;
+  stops = λ rank. refl;
   same_ranks = same_ranks_none c.args.comms.now;
   all = refl;
+  logs = λ rank. prefix_refl (log_of c.args.links.now.world rank);
   same_links = same_links_none c.args.links.now;
 }
 
@@ -21,12 +26,16 @@ pub returns-in_err-more-clause-failed : goal.returns-in_err-more-clause-failed
 returns-in_err-more-clause-failed g c =
     let inv = c.loop-rank.invariant in
     IfErr-weaker c.from_residual.result _ _
-    (failed_later g.H.Handler.apply c.args.comms.now c.loop-rank.comms c.turn_of.new.comms c.args.links.now c.loop-rank.links c.turn_of.new.links inv.same_ranks inv.all inv.advanced) (search rules)
+    (failed_later g.H.Handler.apply c.args.comms.now c.loop-rank.comms c.turn_of.new.comms c.args.links.now c.loop-rank.links c.turn_of.new.links inv.same_ranks inv.all g.H.Handler.start inv.stops inv.advanced) (search rules)
 
 pub returns-in_err-more-clause-same_ranks : goal.returns-in_err-more-clause-same_ranks
 returns-in_err-more-clause-same_ranks g c =
     let inv = c.loop-rank.invariant in
     same_ranks_more g.H.Handler.apply c.args.comms.now c.loop-rank.comms c.turn_of.new.comms c.args.links.now c.loop-rank.links c.turn_of.new.links inv.same_ranks inv.all c.turn_of.ensures.same_ranks
+
+pub returns-in_err-more-clause-stopped_before : goal.returns-in_err-more-clause-stopped_before
+returns-in_err-more-clause-stopped_before g c =
+    IfErr-weaker c.from_residual.result _ _ (stopped_earlier c.args.links.now c.loop-rank.links c.loop-rank.invariant.stops) (search rules)
 
 pub loop-rank-preserved : goal.loop-rank-preserved
 loop-rank-preserved g c =
@@ -53,8 +62,10 @@ loop-rank-preserved g c =
       advanced = λ other. has_advanced_more apply a b d x y z inv.same_ranks inv.all other (inv.advanced other) (e.advanced other);
       ranks = e.ranks;
       halts = e.halts_stand ∙ inv.halts;
+      stops = same_stops_more c.args.links.now y z inv.stops e.stops_stand;
       same_ranks = same_ranks_more apply a b d x y z inv.same_ranks inv.all e.same_ranks;
       all = e.all ∙ inv.all;
+      logs = logs_grow_more x y z inv.logs e.logs_grow;
       same_links = same_links_more x y z inv.same_links e.same_links;
     }
 
@@ -62,3 +73,7 @@ pub returns-clause-moves : goal.returns-clause-moves
 returns-clause-moves g c =
     let P : ℕ → Type 0 = λ n. RoundMoves n c.args.comms.now c.loop-rank.comms c.args.links.now c.loop-rank.links c.loop-rank.moved in
     subst P (omega (arith, c.loop-rank-test.false, c.loop-rank.auto.rank-end)) c.loop-rank.invariant.moves
+
+pub returns-in_err-more-clause-logs_grow : goal.returns-in_err-more-clause-logs_grow
+returns-in_err-more-clause-logs_grow g c =
+    logs_grow_more c.args.links.now c.loop-rank.links c.turn_of.new.links c.loop-rank.invariant.logs c.turn_of.ensures.logs_grow

@@ -1,5 +1,7 @@
 use Rattle.std.proofs.Common.{◌≡◌, ℕ, length}
-use Rattle.comm_rank.specs.Settled.{AreRanks, AreSameLinks, AreSameRanks, HasAdvanced, RoundMoves}
+use Rattle.world_core.specs.Plain.{told_by}
+use Rattle.world_core.specs.Post.{SameStops}
+use Rattle.comm_rank.specs.Settled.{AreRanks, AreSameLinks, AreSameRanks, HasAdvanced, LogsGrow, RoundMoves}
 use Rattle.comm_rank.proofs.barrier.round.Given as goal
 
 -- the first ranks had their turn
@@ -9,7 +11,9 @@ invariant-loop-rank g l = record {
   advanced : (other : ℕ) → HasAdvanced g.H.Handler.apply l.fn.comms l.comms l.fn.links l.links other;
   ranks : AreRanks g.H.Handler.apply g.H.Handler.start l.comms l.links;
   halts : l.links.halts ≡ l.fn.links.halts;
+  stops : SameStops (told_by l.fn.links) (told_by l.links);
   same_ranks : AreSameRanks l.fn.comms l.comms;
   all : length l.comms ≡ length l.fn.comms;
+  logs : LogsGrow l.fn.links l.links;
   same_links : AreSameLinks l.fn.links l.links;
 }

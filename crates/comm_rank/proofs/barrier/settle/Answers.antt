@@ -1,10 +1,14 @@
 use Rattle.std.proofs.Common.{◌≡◌, ◌<◌, ◌+◌, ◌∙◌, ℕ, get_or, refl, sym, subst, arith, rules}
 use Rattle.std.proofs.lemmas.Result.{IfErr-weaker}
+use Rattle.world_core.specs.World.{log_of}
+use Rattle.world_core.proofs.Lists.{prefix_refl}
 use Rattle.comm_rank.specs.Settled.{IsNear, RoundMoves}
-use Rattle.comm_rank.proofs.Advancing.{failed_later, has_advanced_more, has_advanced_none, same_links_more, same_links_none, same_ranks_more, same_ranks_none}
+use Rattle.comm_rank.proofs.Advancing.{failed_later, has_advanced_more, has_advanced_none, logs_grow_more, same_links_more, same_links_none, same_ranks_more, same_ranks_none}
 use Rattle.comm_rank.proofs.Rounds.{near_at_first, round_more, rounds_enough, still_round}
 use Rattle.comm_rank.proofs.Settling.{few_to_one, has_run}
-use Rattle.comm_rank.proofs.PlainTurns.{there}
+use Rattle.comm_rank.proofs.Keeping.{none_lost_by_failed, none_lost_by_ranks}
+use Rattle.comm_rank.proofs.PlainTurns.{straight, there}
+use Rattle.comm_rank.proofs.Stops.{same_stops_more, stopped_earlier}
 use Rattle.comm_rank.proofs.barrier.settle.Goals as goal
 
 pub loop-init : goal.loop-init
@@ -13,71 +17,104 @@ loop-init g c = record {
   advanced = has_advanced_none g.H.Handler.apply c.args.comms.now c.args.links.now;
   ranks = c.requires.ranks;
   halts = refl;
+  stops = λ rank. refl;
   same_ranks = same_ranks_none c.args.comms.now;
   all = refl;
+  logs = λ rank. prefix_refl (log_of c.args.links.now.world rank);
   same_links = same_links_none c.args.links.now;
 }
 
-pub returns-in_err-round-clause-failed : goal.returns-in_err-round-clause-failed
-returns-in_err-round-clause-failed g c =
+pub returns-in_err-moved-clause-failed : goal.returns-in_err-moved-clause-failed
+returns-in_err-moved-clause-failed g c =
     let inv = c.loop.invariant in
     IfErr-weaker c.from_residual.result _ _
-    (failed_later g.H.Handler.apply c.args.comms.now c.loop.comms c.round.new.comms c.args.links.now c.loop.links c.round.new.links inv.same_ranks inv.all inv.advanced) (search rules)
+    (failed_later g.H.Handler.apply c.args.comms.now c.loop.comms c.round-moved.new.comms c.args.links.now c.loop.links c.round-moved.new.links inv.same_ranks inv.all g.H.Handler.start inv.stops inv.advanced) (search rules)
 
-pub returns-in_err-round-clause-same_ranks : goal.returns-in_err-round-clause-same_ranks
-returns-in_err-round-clause-same_ranks g c =
+pub returns-in_err-moved-clause-same_ranks : goal.returns-in_err-moved-clause-same_ranks
+returns-in_err-moved-clause-same_ranks g c =
     let inv = c.loop.invariant in
-    same_ranks_more g.H.Handler.apply c.args.comms.now c.loop.comms c.round.new.comms c.args.links.now c.loop.links c.round.new.links inv.same_ranks inv.all c.round.ensures.same_ranks
+    same_ranks_more g.H.Handler.apply c.args.comms.now c.loop.comms c.round-moved.new.comms c.args.links.now c.loop.links c.round-moved.new.links inv.same_ranks inv.all c.round-moved.ensures.same_ranks
+
+pub returns-in_err-moved-clause-none_lost : goal.returns-in_err-moved-clause-none_lost
+returns-in_err-moved-clause-none_lost g c =
+    let inv = c.loop.invariant in
+    let e = c.round-moved.ensures in
+    let direct = straight g.H.Handler.apply g.H.Handler.start c.args.comms.now c.args.links.now c.args.caller c.requires.ranks c.requires.caller c.index-comms-caller-2.result c.holds.ensures.direct in
+    none_lost_by_failed g.H.Handler.apply g.H.Handler.start c.round-moved.new.comms c.round-moved.new.links c.holds-in-loop.ensures.sound (e.same_links.scheme ∙ inv.same_links.scheme ∙ direct)
+    c.loop.comms c.loop.links inv.ranks e.same_ranks e.all e.same_links _ c.in_err-moved.ensures.failed
+
+pub returns-then-not-branch-clause-none_lost : goal.returns-then-not-branch-clause-none_lost
+returns-then-not-branch-clause-none_lost g c =
+    let e = c.in_ok-moved.ensures in
+    let direct = straight g.H.Handler.apply g.H.Handler.start c.args.comms.now c.args.links.now c.args.caller c.requires.ranks c.requires.caller c.index-comms-caller-2.result c.holds.ensures.direct in
+    none_lost_by_ranks g.H.Handler.apply g.H.Handler.start c.round-moved.new.comms c.round-moved.new.links c.holds-in-loop.ensures.sound
+    (e.same_links.scheme ∙ c.loop.invariant.same_links.scheme ∙ direct) e.ranks
+
+pub returns-clause-none_lost : goal.returns-clause-none_lost
+returns-clause-none_lost g c =
+    let inv = c.loop.invariant in
+    let direct = straight g.H.Handler.apply g.H.Handler.start c.args.comms.now c.args.links.now c.args.caller c.requires.ranks c.requires.caller c.index-comms-caller-2.result c.holds.ensures.direct in
+    none_lost_by_ranks g.H.Handler.apply g.H.Handler.start c.loop.comms c.loop.links c.holds-2.ensures.sound (inv.same_links.scheme ∙ direct) inv.ranks
+
+pub returns-in_err-moved-clause-stopped_before : goal.returns-in_err-moved-clause-stopped_before
+returns-in_err-moved-clause-stopped_before g c =
+    IfErr-weaker c.from_residual.result _ _ (stopped_earlier c.args.links.now c.loop.links c.loop.invariant.stops) (search rules)
+
+pub returns-then-not-branch-clause-stops_stand : goal.returns-then-not-branch-clause-stops_stand
+returns-then-not-branch-clause-stops_stand g c =
+    same_stops_more c.args.links.now c.loop.links c.round-moved.new.links c.loop.invariant.stops c.in_ok-moved.ensures.stops_stand
 
 pub returns-then-not-branch-clause-same_ranks : goal.returns-then-not-branch-clause-same_ranks
 returns-then-not-branch-clause-same_ranks g c =
     let inv = c.loop.invariant in
-    same_ranks_more g.H.Handler.apply c.args.comms.now c.loop.comms c.round.new.comms c.args.links.now c.loop.links c.round.new.links inv.same_ranks inv.all c.round.ensures.same_ranks
+    same_ranks_more g.H.Handler.apply c.args.comms.now c.loop.comms c.round-moved.new.comms c.args.links.now c.loop.links c.round-moved.new.links inv.same_ranks inv.all c.round-moved.ensures.same_ranks
 
 pub returns-then-not-branch-clause-advanced : goal.returns-then-not-branch-clause-advanced
 returns-then-not-branch-clause-advanced g c =
     let inv = c.loop.invariant in
-    λ other. has_advanced_more g.H.Handler.apply c.args.comms.now c.loop.comms c.round.new.comms c.args.links.now c.loop.links c.round.new.links inv.same_ranks inv.all other (inv.advanced other) (c.in_ok-round.ensures.advanced other)
+    λ other. has_advanced_more g.H.Handler.apply c.args.comms.now c.loop.comms c.round-moved.new.comms c.args.links.now c.loop.links c.round-moved.new.links inv.same_ranks inv.all other (inv.advanced other) (c.in_ok-moved.ensures.advanced other)
 
 pub returns-then-not-branch-clause-has_run : goal.returns-then-not-branch-clause-has_run
 returns-then-not-branch-clause-has_run g c =
     let inv = c.loop.invariant in
-    let e = c.in_ok-round.ensures in
+    let e = c.in_ok-moved.ensures in
     let apply = g.H.Handler.apply in
     let a = c.args.comms.now in
     let b = c.loop.comms in
-    let d = c.round.new.comms in
+    let d = c.round-moved.new.comms in
     let x = c.args.links.now in
     let y = c.loop.links in
-    let z = c.round.new.links in
-    let P : ℕ → Type 0 = λ n. RoundMoves n b d y z c.in_ok-round.field-0 in
+    let z = c.round-moved.new.links in
+    let P : ℕ → Type 0 = λ n. RoundMoves n b d y z c.in_ok-moved.field-0 in
     let moves = subst P (sym e.all ∙ e.ranks.all) e.moves in
     let within : c.args.caller < z.world.layout.ranks = omega (arith, c.requires.caller, inv.all, e.all, e.ranks.all) in
-    has_run apply g.H.Handler.start a d x z c.args.caller c.requires.ranks e.ranks (e.all ∙ inv.all) c.is_sound.ensures
+    has_run apply g.H.Handler.start a d x z c.args.caller c.requires.ranks e.ranks (e.all ∙ inv.all) c.holds-in-loop.ensures.sound
     (has_advanced_more apply a b d x y z inv.same_ranks inv.all c.args.caller (inv.advanced c.args.caller) (e.advanced c.args.caller))
-    (still_round a b d x y z c.args.caller c.loop.counter c.in_ok-round.field-0 e.same_links.layout within inv.near moves c.if-not-branch.true)
+    (still_round a b d x y z c.args.caller c.loop.counter c.in_ok-moved.field-0 e.same_links.layout within inv.near moves c.if-not-branch.true)
 
 pub loop-preserved : goal.loop-preserved
 loop-preserved g c =
     let inv = c.loop.invariant in
-    let e = c.in_ok-round.ensures in
+    let e = c.in_ok-moved.ensures in
     let apply = g.H.Handler.apply in
     let a = c.args.comms.now in
     let b = c.loop.comms in
-    let d = c.round.new.comms in
+    let d = c.round-moved.new.comms in
     let x = c.args.links.now in
     let y = c.loop.links in
-    let z = c.round.new.links in
-    let P : ℕ → Type 0 = λ n. RoundMoves n b d y z c.in_ok-round.field-0 in
+    let z = c.round-moved.new.links in
+    let P : ℕ → Type 0 = λ n. RoundMoves n b d y z c.in_ok-moved.field-0 in
     let moves = subst P (sym e.all ∙ e.ranks.all) e.moves in
     let within : c.args.caller < z.world.layout.ranks = omega (arith, c.requires.caller, inv.all, e.all, e.ranks.all) in
     record {
-      near = round_more a b d x y z c.args.caller c.loop.counter c.in_ok-round.field-0 e.same_links.layout within inv.near moves;
+      near = round_more a b d x y z c.args.caller c.loop.counter c.in_ok-moved.field-0 e.same_links.layout within inv.near moves;
       advanced = λ other. has_advanced_more apply a b d x y z inv.same_ranks inv.all other (inv.advanced other) (e.advanced other);
       ranks = e.ranks;
       halts = e.halts_stand ∙ inv.halts;
+      stops = same_stops_more c.args.links.now y z inv.stops e.stops_stand;
       same_ranks = same_ranks_more apply a b d x y z inv.same_ranks inv.all e.same_ranks;
       all = e.all ∙ inv.all;
+      logs = logs_grow_more x y z inv.logs e.logs_grow;
       same_links = same_links_more x y z inv.same_links e.same_links;
     }
 
@@ -94,5 +131,13 @@ returns-clause-has_run g c =
     let few = few_to_one apply start a x caller (get_or a caller read) (there apply start a x caller c.requires.ranks c.requires.caller read) c.requires.ranks in
     let rounds : c.loop.counter ≡ most + 1 = omega (arith, c.loop-test.false, c.loop.auto.counter-end) in
     let P : ℕ → Type 0 = λ n. IsNear n a c.loop.comms x c.loop.links caller in
-    has_run apply start a c.loop.comms x c.loop.links caller c.requires.ranks inv.ranks inv.all c.is_sound-2.ensures (inv.advanced caller)
+    has_run apply start a c.loop.comms x c.loop.links caller c.requires.ranks inv.ranks inv.all c.holds-2.ensures.sound (inv.advanced caller)
     (rounds_enough a c.loop.comms x c.loop.links caller most (λ to. omega (arith, few to, c.sent_count-most.ensures.value)) (subst P rounds inv.near))
+
+pub returns-in_err-moved-clause-logs_grow : goal.returns-in_err-moved-clause-logs_grow
+returns-in_err-moved-clause-logs_grow g c =
+    logs_grow_more c.args.links.now c.loop.links c.round-moved.new.links c.loop.invariant.logs c.round-moved.ensures.logs_grow
+
+pub returns-then-not-branch-clause-logs_grow : goal.returns-then-not-branch-clause-logs_grow
+returns-then-not-branch-clause-logs_grow g c =
+    logs_grow_more c.args.links.now c.loop.links c.round-moved.new.links c.loop.invariant.logs c.round-moved.ensures.logs_grow

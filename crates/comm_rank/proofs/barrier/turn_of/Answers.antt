@@ -1,7 +1,8 @@
 use Rattle.std.proofs.Common.{get_or, sym, rules}
 use Rattle.std.proofs.lemmas.Result.{IfErr-weaker}
 use Rattle.comm_rank.proofs.Moving.{advanced_after, ranks_after, same_ranks_after, turn_moves}
-use Rattle.comm_rank.proofs.PlainTurns.{agrees_here, direct_before, failed_at, few_sent, four_faults, mine, serves, stop_raised, there, turn_at}
+use Rattle.comm_rank.proofs.PlainTurns.{agrees_here, direct_before, failed_at, few_sent, logs_grow, mine, serves, there, turn_at}
+use Rattle.comm_rank.proofs.Stops.{stopped_by}
 use Rattle.comm_rank.proofs.barrier.turn_of.Goals as goal
 
 pub turn-requires-clause-going : goal.turn-requires-clause-going
@@ -31,13 +32,12 @@ returns-in_err-turn-clause-same_ranks g c =
 
 pub returns-in_err-turn-clause-failed : goal.returns-in_err-turn-clause-failed
 returns-in_err-turn-clause-failed g c =
-    IfErr-weaker c.from_residual.result _ _ (λ fault h. failed_at g.H.Handler.apply g.H.Handler.start c.args.comms.now c.args.links.now c.turn.new.post c.args.rank _ c.turn.new.self c.requires.within
-    (there g.H.Handler.apply g.H.Handler.start c.args.comms.now c.args.links.now c.args.rank c.requires.ranks c.requires.within c.index-comms-rank.result) c.requires.ranks c.turn.ensures.same_rank c.turn.ensures.same_post fault h.0 h.1 h.2 h.3)
-    (four_faults c.from_residual.result _ _ _ _ (search rules) (search rules) (search rules) (search rules))
+    failed_at g.H.Handler.apply g.H.Handler.start c.args.comms.now c.args.links.now c.turn.new.post c.args.rank _ c.turn.new.self c.requires.within
+    (there g.H.Handler.apply g.H.Handler.start c.args.comms.now c.args.links.now c.args.rank c.requires.ranks c.requires.within c.index-comms-rank.result) c.requires.ranks c.turn.ensures.same_rank
+    c.from_residual.result c.turn.ensures.same_post c.turn.ensures.other_stops (search rules) (search rules) (search rules) (search rules) (search rules) (search rules) (search rules) (search rules)
 
-pub returns-in_err-turn-clause-raises_the_stop : goal.returns-in_err-turn-clause-raises_the_stop
-returns-in_err-turn-clause-raises_the_stop g c =
-    IfErr-weaker c.from_residual.result _ _ (stop_raised c.turn.new.post (get_or c.args.comms.now c.args.rank c.index-comms-rank.result).here) (search rules)
+pub returns-in_err-turn-clause-stopped_before : goal.returns-in_err-turn-clause-stopped_before
+returns-in_err-turn-clause-stopped_before g c = IfErr-weaker c.from_residual.result _ _ (stopped_by c.args.links.now) (search rules)
 
 pub returns-clause-advanced : goal.returns-clause-advanced
 returns-clause-advanced g c =
@@ -62,6 +62,16 @@ returns-clause-moves g c =
     turn_moves g.H.Handler.apply g.H.Handler.start c.args.comms.now c.args.links.now c.turn.new.post c.args.rank _ c.turn.new.self
     (there g.H.Handler.apply g.H.Handler.start c.args.comms.now c.args.links.now c.args.rank c.requires.ranks c.requires.within c.index-comms-rank.result) c.requires.ranks e.same_rank c.in_ok-turn.turn
     (turn_at g.H.Handler.apply g.H.Handler.start _ c.turn.new.self c.args.links.now c.turn.new.post c.in_ok-turn.turn c.args.rank at.here e.turned e.agrees e.takes_from_each e.puts_to_each e.same_post)
-    c.is_sound.ensures c.is_sound-2.ensures (direct_before c.args.comms.now c.args.rank _ c.turn.new.self c.index-comms-rank-2.result c.requires.within e.same_rank c.holds.ensures.direct)
-    (few_sent c.args.comms.now c.args.rank c.turn.new.self c.index-comms-rank-2.result c.requires.within c.holds.ensures.within)
+    c.holds.ensures.sound c.holds-2.ensures.sound c.holds.ensures.room (direct_before c.args.comms.now c.args.rank _ c.turn.new.self c.index-comms-rank-2.result c.requires.within e.same_rank c.holds-3.ensures.direct)
+    (few_sent c.args.comms.now c.args.rank c.turn.new.self c.index-comms-rank-2.result c.requires.within c.holds-3.ensures.within)
     c.has_moved.result c.has_moved.ensures
+
+pub returns-clause-logs_grow : goal.returns-clause-logs_grow
+returns-clause-logs_grow g c =
+    logs_grow g.H.Handler.apply (get_or c.args.comms.now c.args.rank c.index-comms-rank.result) c.turn.new.self c.args.links.now c.turn.new.post c.turn.ensures.same_post
+    c.turn.result c.turn.ensures.turned c.turn.ensures.log_stands_when_halted c.turn.ensures.cut_off
+
+pub returns-in_err-turn-clause-logs_grow : goal.returns-in_err-turn-clause-logs_grow
+returns-in_err-turn-clause-logs_grow g c =
+    logs_grow g.H.Handler.apply (get_or c.args.comms.now c.args.rank c.index-comms-rank.result) c.turn.new.self c.args.links.now c.turn.new.post c.turn.ensures.same_post
+    c.turn.result c.turn.ensures.turned c.turn.ensures.log_stands_when_halted c.turn.ensures.cut_off

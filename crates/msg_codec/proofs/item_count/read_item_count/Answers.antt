@@ -1,13 +1,17 @@
-use Rattle.std.proofs.Common.{arith}
+use Rattle.std.proofs.Common.{arith, rules, Some, None}
+use Rattle.msg_codec.specs.ItemCount.{item_count_of}
 use Rattle.msg_codec.proofs.Bytes.{are_bytes}
 use Rattle.msg_codec.proofs.ItemCount.{found_is, short_is, none_is}
 use Rattle.msg_codec.proofs.item_count.read_item_count.Goals as goal
 
-pub returns-clause-found : goal.returns-clause-found
-returns-clause-found c = found_is c.whole_item_count.result c.args.body.now (are_bytes c.args.body.now (λ i. omega (arith, c.type_inv.body i))) c.whole_item_count.ensures
+pub returns-in-Ok-clause-found : goal.returns-in-Ok-clause-found
+unfolding item_count_of
+returns-in-Ok-clause-found c = found_is (Some c.in-Ok.found) c.args.body.now (are_bytes c.args.body.now (λ i. omega (arith, c.type_inv.body i))) (search rules)
 
-pub returns-clause-short : goal.returns-clause-short
-returns-clause-short c = short_is c.whole_item_count.result c.args.body.now (are_bytes c.args.body.now (λ i. omega (arith, c.type_inv.body i))) c.whole_item_count.ensures
+pub returns-in-Ok-clause-short : goal.returns-in-Ok-clause-short
+unfolding item_count_of
+returns-in-Ok-clause-short c = short_is (Some c.in-Ok.found) c.args.body.now (are_bytes c.args.body.now (λ i. omega (arith, c.type_inv.body i))) (search rules)
 
-pub returns-clause-none : goal.returns-clause-none
-returns-clause-none c = none_is c.whole_item_count.result c.args.body.now c.whole_item_count.ensures
+pub returns-in_default-clause-none : goal.returns-in_default-clause-none
+unfolding item_count_of
+returns-in_default-clause-none c = none_is None c.args.body.now (search rules)

@@ -6,7 +6,7 @@ use Rattle.ygm_run.specs.Inputs.{IsFull, good_lines}
 use Rattle.ygm_run.specs.Lines.{raw_lines}
 use Rattle.ygm_run.specs.Reading.{Reading}
 use Rattle.ygm_run.specs.Turns.{to_come}
-use Rattle.ygm_run.proofs.Feeding.{fed_nothing, fed_more, was_read, rest_none, rest_more, full_so, told_so, many_good, all_sent_of}
+use Rattle.ygm_run.proofs.Feeding.{fed_nothing, fed_more, from_start, was_read, rest_none, rest_more, full_so, told_so, many_good, all_sent_of}
 use Rattle.ygm_run.proofs.input.read_file.Goals as goal
 
 pub loop-fault-init : goal.loop-fault-init
@@ -35,7 +35,7 @@ returns-in_err-fault-clause-full g c =
       limit_is = at.0;
       lines = told_so (λ bytes. length before.fed.raws < length (good_lines (raw_lines bytes))) (λ bytes. 2 ^ 56 < length (good_lines (raw_lines bytes))) (g.S.Source.left c.args.source.now)
           (λ bytes more. omega (arith, more, at.1, before.sent, before.fed.given))
-          (many_good before.fed.raws c.loop-fault.reader.held (g.S.Source.left c.args.source.now) (g.S.Source.left c.loop-fault.source) before.fed.short before.fed.taken at.3);
+          (many_good before.fed.raws (g.S.Source.left c.args.source.now) (to_come c.loop-fault.reader.held (g.S.Source.left c.loop-fault.source)) before.fed.short (from_start _ _ _ before.fed.taken) at.3);
       no_read_failed = at.2 ∙ before.going_on (sym c.done.ensures ∙ c.loop-fault-test.true);
     })
     now.full)
@@ -66,10 +66,10 @@ returns-clause-sent g c =
     record {
       lines = _;
       carried = fed.carried;
-      all = all_sent_of fed.raws c.loop-fault.reader (g.S.Source.left c.args.source.now) (g.S.Source.left c.loop-fault.source) _ _ fed.taken (c.loop-fault.invariant.ended (sym c.done.ensures ∙ c.loop-fault-test.false));
+      all = all_sent_of fed.raws c.loop-fault.reader (g.S.Source.left c.args.source.now) (g.S.Source.left c.loop-fault.source) _ _ (from_start _ _ _ fed.taken) (c.loop-fault.invariant.ended (sym c.done.ensures ∙ c.loop-fault-test.false));
     }
 
 pub returns-clause-read : goal.returns-clause-read
 returns-clause-read g c =
     let fed = c.loop-fault.invariant.fed in
-    was_read fed.raws c.loop-fault.reader (g.S.Source.left c.args.source.now) (g.S.Source.left c.loop-fault.source) _ _ fed.short fed.taken (omega (arith, fed.given)) (c.loop-fault.invariant.ended (sym c.done.ensures ∙ c.loop-fault-test.false))
+    was_read fed.raws c.loop-fault.reader (g.S.Source.left c.args.source.now) (g.S.Source.left c.loop-fault.source) _ _ fed.short (from_start _ _ _ fed.taken) (omega (arith, fed.given)) c.loop-fault.invariant.bound (c.loop-fault.invariant.ended (sym c.done.ensures ∙ c.loop-fault-test.false))

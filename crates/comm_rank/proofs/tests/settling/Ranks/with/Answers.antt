@@ -18,7 +18,7 @@ invariant_of-result g c =
     let far = c.in_ok-rank_of-2.ensures in
     let P : Rank g.row.H.Denot → Type 0 = λ me. Agrees apply start me [] in
     let ranks = ranks_new apply start layout most ring batches c.requires.few c.args.near c.args.far (search rules)
-    (subst P near.made near.agrees) (subst P far.made far.agrees) c.requires.ring in
+    (subst P near.made near.agrees) (subst P far.made far.agrees) in
     let items : c.push-2.new.self.items ≡ fresh_rank layout Direct 0 most c.args.near ∷ fresh_rank layout Direct 1 most c.args.far ∷ [] = search (rules, near.made, far.made) in
     let links : c.in_ok-new.field-0 ≡ fresh_links layout Direct ring batches = c.in_ok-new.ensures in
     rw (items, links) (refl, λ _. ranks)

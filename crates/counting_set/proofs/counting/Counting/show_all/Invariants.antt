@@ -1,7 +1,7 @@
 use Rattle.std.proofs.Common.{drop}
 use Rattle.std.specs.List.{FoldsTo}
 use Rattle.counting_set.specs.Shown.{ShownTo}
-use Rattle.counting_set.proofs.counting.Counting.for_all.Given as goal
+use Rattle.counting_set.proofs.counting.Counting.show_all.Given as goal
 
 -- where the calls at the rest end, the calls at all end
 abbrev pub invariant-loop-k : goal.invariant-loop-k

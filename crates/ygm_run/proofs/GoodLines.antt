@@ -1,0 +1,64 @@
+-- Lines that have no more bytes than a line may have, and those before the first that has more.
+use Rattle.std.proofs.Common.{◌≡◌, ℕ, ◌+◌, ◌<◌, ◌≤◌, cond, List, [], ◌∷◌, ◌++◌, Some, None, Option, length, refl, ap, sym, ◌∙◌, subst, arith, inl, inr}
+use Rattle.std.specs.Option.{option_map}
+use Rattle.std.specs.List.{AllByRecursion}
+use Rattle.std.proofs.lemmas.Bool.{cases_lt, le-ltb, lt-ltb}
+use Rattle.ygm_run.specs.Inputs.{good_lines}
+use Rattle.ygm_run.specs.Lines.{max_line, first_too_long}
+
+pub both_short : (xs ys : List (List ℕ)) → AllByRecursion (λ raw. length raw ≤ max_line) xs → AllByRecursion (λ raw. length raw ≤ max_line) ys → AllByRecursion (λ raw. length raw ≤ max_line) (xs ++ ys)
+both_short [] ys x y = y
+both_short (r ∷ xs) ys x y = (x.0, both_short xs ys x.1 y)
+
+-- of short lines none is too long
+pub none_too_long_of : (raws : List (List ℕ)) → AllByRecursion (λ raw. length raw ≤ max_line) raws → first_too_long raws ≡ None
+none_too_long_of [] short = refl
+none_too_long_of (r ∷ raws) short =
+    ap (λ b. cond b (Some 1) (option_map (λ number. number + 1) (first_too_long raws))) (le-ltb max_line (length r) short.0)
+    ∙ ap (option_map (λ number. number + 1)) (none_too_long_of raws short.1)
+
+-- behind short lines, the first that is too long has the next number
+pub later_too_long : (raws later : List (List ℕ)) → AllByRecursion (λ raw. length raw ≤ max_line) raws → first_too_long later ≡ Some 1 → first_too_long (raws ++ later) ≡ Some (length raws + 1)
+later_too_long [] later short long = long
+later_too_long (r ∷ raws) later short long =
+    ap (λ b. cond b (Some 1) (option_map (λ number. number + 1) (first_too_long (raws ++ later)))) (le-ltb max_line (length r) short.0)
+    ∙ ap (option_map (λ number. number + 1)) (later_too_long raws later short.1 long)
+    ∙ ap Some (let e : length raws + 1 + 1 ≡ length (r ∷ raws) + 1 = omega arith in e)
+
+-- short lines stand before any that is too long
+pub good_before : (raws later : List (List ℕ)) → AllByRecursion (λ raw. length raw ≤ max_line) raws → length raws ≤ length (good_lines (raws ++ later))
+good_before [] later short = omega arith
+good_before (r ∷ raws) later short =
+    subst (λ w. length (r ∷ raws) ≤ length w) (sym (ap (λ b. cond b [] (r ∷ good_lines (raws ++ later))) (le-ltb max_line (length r) short.0)))
+    (omega (arith, good_before raws later short.1))
+
+-- good lines are lines
+pub few_good : (raws : List (List ℕ)) → length (good_lines raws) ≤ length raws
+few_good [] = omega arith
+few_good (raw ∷ raws) = elim (cases_lt max_line (length raw)) [
+  | inl long ↦ subst (λ w. length w ≤ length (raw ∷ raws)) (sym (ap (λ b. cond b [] (raw ∷ good_lines raws)) (lt-ltb max_line (length raw) long))) (omega arith)
+  | inr short ↦ subst (λ w. length w ≤ length (raw ∷ raws)) (sym (ap (λ b. cond b [] (raw ∷ good_lines raws)) (le-ltb max_line (length raw) short))) (omega (arith, few_good raws))
+]
+
+-- where one less is below each number that a later line may have, one more is below the next
+good_next : (raw : List ℕ) (good : List (List ℕ)) (found : Option ℕ) (number : ℕ) → ((before : ℕ) → found ≡ Some before → length good < before) → option_map (λ number. number + 1) found ≡ Some number → length (raw ∷ good) < number
+good_next raw good None number below e = absurd cc
+good_next raw good (Some before) number below e =
+    let f : Some (before + 1) ≡ Some number = e in
+    let same : before + 1 ≡ number = cc in
+    omega (arith, below before refl, same)
+
+-- those before a bad line are fewer than its number
+pub good_below : (raws : List (List ℕ)) (number : ℕ) → first_too_long raws ≡ Some number → length (good_lines raws) < number
+good_below [] number e = absurd cc
+good_below (raw ∷ raws) number e =
+    let later = option_map (λ number. number + 1) (first_too_long raws) in
+    elim (cases_lt max_line (length raw)) [
+      | inl long ↦
+          let first : Some 1 ≡ Some number = sym (ap (λ b. cond b (Some 1) later) (lt-ltb max_line (length raw) long)) ∙ e in
+          let is : 1 ≡ number = cc in
+          subst (λ w. length w < number) (sym (ap (λ b. cond b [] (raw ∷ good_lines raws)) (lt-ltb max_line (length raw) long))) (omega (arith, is))
+      | inr short ↦
+          subst (λ w. length w < number) (sym (ap (λ b. cond b [] (raw ∷ good_lines raws)) (le-ltb max_line (length raw) short)))
+          (good_next raw (good_lines raws) (first_too_long raws) number (good_below raws) (sym (ap (λ b. cond b (Some 1) later) (le-ltb max_line (length raw) short)) ∙ e))
+    ]

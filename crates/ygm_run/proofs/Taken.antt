@@ -1,0 +1,83 @@
+-- Lines that were cut off the front of what was to come.
+use Rattle.std.proofs.Common.{◌≡◌, ℕ, ◌≤◌, List, [], ◌∷◌, ◌++◌, Some, None, length, map, refl, sym, ap, ◌∙◌, subst, arith, append_assoc, inl, inr}
+use Rattle.std.specs.Option.{option_map}
+use Rattle.std.specs.List.{AllByRecursion}
+use Rattle.std.proofs.lemmas.List.{append-nil}
+use Rattle.ygm_io.specs.Content.{Told, TakenFrom, NothingLeft}
+use Rattle.ygm_run.specs.Fed.{LinesTaken}
+use Rattle.ygm_run.specs.Lines.{LacksLf, first_too_long, lines_of, max_line, raw_lines, text_of}
+use Rattle.ygm_run.specs.Turns.{CutOff, to_come}
+use Rattle.ygm_run.proofs.Cuts.{raw_lines-at_lf, raw_lines-at_end}
+use Rattle.ygm_run.proofs.GoodLines.{both_short, none_too_long_of}
+
+pub taken_none : (left : Told) → TakenFrom [] left left
+taken_none None = refl
+taken_none (Some bytes) = refl
+
+pub taken_more : (f g : List ℕ) (a b c : Told) → TakenFrom f a b → TakenFrom g b c → TakenFrom (f ++ g) a c
+taken_more f g a b None p q = p ∙ ap (option_map (λ rest. f ++ rest)) q
+taken_more f g a b (Some c) p q = p ∙ ap (option_map (λ rest. f ++ rest)) q ∙ ap Some (sym (append_assoc f g c))
+
+pub lines_none : (before now : Told) → before ≡ now → LinesTaken [] before now
+lines_none before now same = record { given = []; taken = same ∙ taken_none now; lines = λ front later e. refl }
+
+pub lines_more : (xs ys : List (List ℕ)) (a b c : Told) → LinesTaken xs a b → LinesTaken ys b c → LinesTaken (xs ++ ys) a c
+lines_more xs ys a b c p q = record {
+  given = p.given ++ q.given;
+  taken = taken_more p.given q.given a b c p.taken q.taken;
+  lines = λ front later e.
+      ap raw_lines (append_assoc p.given q.given front)
+      ∙ p.lines (q.given ++ front) later (q.taken ∙ ap (option_map (λ rest. q.given ++ rest)) e ∙ ap Some (sym (append_assoc q.given front later)))
+      ∙ ap (λ w. xs ++ w) (q.lines front later e)
+      ∙ sym (append_assoc xs ys (raw_lines front));
+}
+
+nothing_of : (front later : List ℕ) (now : Told) → now ≡ Some (front ++ later) → NothingLeft now → front ≡ []
+nothing_of [] later now e none = refl
+nothing_of (byte ∷ front) later None e none = absurd cc
+nothing_of (byte ∷ front) later (Some rest) e none = absurd (let f : rest ≡ byte ∷ (front ++ later) = cc in cc)
+
+-- a line that was cut off is the first
+pub line_cut : (raw : List ℕ) (before now : Told) → LacksLf raw → CutOff raw before now → LinesTaken (raw ∷ []) before now
+line_cut raw before now h (inl e) = record {
+  given = raw ++ 10 ∷ [];
+  taken = e;
+  lines = λ front later is. ap raw_lines (append_assoc raw (10 ∷ []) front) ∙ raw_lines-at_lf raw front h;
+}
+line_cut raw before now h (inr last) = record {
+  given = raw;
+  taken = last.1;
+  lines = λ front later is.
+      let empty = nothing_of front later now is last.2 in
+      ap (λ w. raw_lines (raw ++ w)) empty ∙ ap raw_lines (append-nil raw) ∙ raw_lines-at_end raw h last.0 ∙ sym (ap (λ w. raw ∷ raw_lines w) empty);
+}
+
+-- all the lines of the bytes
+pub whole_lines : (raws : List (List ℕ)) (bytes rest : List ℕ) → LinesTaken raws (Some bytes) (Some rest) → raw_lines bytes ≡ raws ++ raw_lines rest
+whole_lines raws bytes rest t =
+    let e : Some bytes ≡ Some (t.given ++ rest) = t.taken in
+    let is : bytes ≡ t.given ++ rest = cc in
+    ap raw_lines is ∙ t.lines rest [] (ap Some (sym (append-nil rest)))
+
+-- their texts go with them
+pub text_cut : (raw : List ℕ) (before now : Told) → LinesTaken (raw ∷ []) before now → option_map lines_of before ≡ option_map (λ lines. text_of raw ∷ lines) (option_map lines_of now)
+text_cut raw before None t = ap (option_map lines_of) t.taken
+text_cut raw before (Some rest) t = ap (option_map lines_of) t.taken ∙ ap (λ raws. Some (map text_of raws)) (t.lines rest [] (ap Some (sym (append-nil rest))))
+
+part_short : (part : List ℕ) → LacksLf part → length part ≤ max_line → AllByRecursion (λ raw. length raw ≤ max_line) (raw_lines part)
+part_short [] h short = tt
+part_short (byte ∷ part) h short = subst (AllByRecursion (λ raw. length raw ≤ max_line)) (sym (raw_lines-at_end (byte ∷ part) h (omega arith))) (short, tt)
+
+-- Short lines were given, and with a part of the next that is short too nothing bad was read, a piece behind it aside.
+pub front_read : (raws : List (List ℕ)) (part piece held : List ℕ) (before now : Told) → held ≡ part ++ piece → LacksLf part → length part ≤ max_line → AllByRecursion (λ raw. length raw ≤ max_line) raws
+    → LinesTaken raws before (to_come held now) → (front : List ℕ) × TakenFrom (front ++ piece) before now × (first_too_long (raw_lines front) ≡ None)
+front_read raws part piece held before None is h fits short t = ([], t.taken, refl)
+front_read raws part piece held before (Some rest) is h fits short t =
+    let front = t.given ++ part in (
+      front,
+      t.taken
+          ∙ ap (λ w. Some (t.given ++ (w ++ rest))) is
+          ∙ ap Some (sym (append_assoc t.given (part ++ piece) rest) ∙ ap (λ w. w ++ rest) (sym (append_assoc t.given part piece))),
+      ap first_too_long (t.lines part (piece ++ rest) (ap (λ w. Some (w ++ rest)) is ∙ ap Some (append_assoc part piece rest)))
+          ∙ none_too_long_of (raws ++ raw_lines part) (both_short raws (raw_lines part) short (part_short part h fits)),
+    )
