@@ -17,7 +17,6 @@ use Rattle.ygm_run.specs.Inputs.{IsRead, IsRest, good_lines}
 use Rattle.ygm_run.specs.Lines.{max_line, lines_of, raw_lines, text_of, first_too_long, StartsTooLong}
 use Rattle.ygm_run.specs.Reading.{Reading}
 use Rattle.ygm_run.specs.Turns.{to_come, RawLineTaken}
-use Rattle.ygm_run.specs.declared.pieces.TheConstants.{READING_SPACE}
 use Rattle.ygm_run.proofs.GoodLines.{both_short, few_good, good_before, good_below, later_too_long, none_too_long_of}
 use Rattle.ygm_run.proofs.Taken.{front_read, line_cut, lines_more, lines_none, taken_more, taken_none, whole_lines}
 
@@ -143,7 +142,7 @@ was_read raws reader before now faults (Some (Bad line why)) short taken given b
   bad_line_is : IfSome before (λ bytes. Some line ≡ first_too_long (raw_lines bytes))
   bad_line_is = subst (λ k. IfSome before (λ bytes. Some k ≡ first_too_long (raw_lines bytes))) (omega (arith, given, ended.1)) (too_long_given raws reader.held before now short taken ended.0)
 
-  stopped : (front piece : List ℕ) × (length piece ≤ READING_SPACE) × TakenFrom (front ++ piece) before now × (first_too_long (raw_lines front) ≡ None)
+  stopped : (front piece : List ℕ) × (length piece ≤ 65536) × TakenFrom (front ++ piece) before now × (first_too_long (raw_lines front) ≡ None)
   stopped =
       let last = ended.4 in
       let f = front_read raws ended.3 last.piece reader.held before now last.behind last.partial last.short short taken in

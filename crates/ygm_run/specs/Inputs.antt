@@ -1,7 +1,6 @@
 -- How the files of the ranks were read, and which of their faults is told.
 use Rattle.std.specs.Prelude.{◌≡◌, ◌↔◌, ℕ, ◌<◌, ◌≤◌, ◌^◌, List, [], ◌∷◌, ◌++◌, Option, None, Some, IfSome, length, nat_lt, slice_get, if◌then◌else◌}
 use Rattle.ygm_io.specs.Content.{Told, TakenFrom, NothingLeft}
-use Rattle.ygm_run.specs.declared.pieces.TheConstants.{READING_SPACE}
 use Rattle.ygm_run.specs.declared.status.InputFault.{InputFault}
 use Rattle.ygm_run.specs.declared.status.InputFault.TheVariants.{Read, Bad}
 use Rattle.ygm_run.specs.declared.status.LineWhy.{LineWhy}
@@ -33,7 +32,7 @@ pub record IsRead (held left : Told) (count : ℕ) (fault : Option InputFault) :
   -- what was read before a read failed has no bad line
   pub before_read : fault ≡ Some Read → (front : List ℕ) × TakenFrom front held left × (first_too_long (raw_lines front) ≡ None)
   -- what was read before the piece that made a line bad has no bad line, and nothing was read behind that piece
-  pub stops : (line : ℕ) (why : LineWhy) → fault ≡ Some (Bad line why) → (front piece : List ℕ) × (length piece ≤ READING_SPACE)
+  pub stops : (line : ℕ) (why : LineWhy) → fault ≡ Some (Bad line why) → (front piece : List ℕ) × (length piece ≤ 65536)
       × TakenFrom (front ++ piece) held left × (first_too_long (raw_lines front) ≡ None)
   -- where no read failed, no more lines stand before a bad one than a rank sends letters
   pub few : count ≡ 0 → IfSome held (λ bytes. length (good_lines (raw_lines bytes)) ≤ 2 ^ 56)

@@ -6,7 +6,6 @@ use Rattle.ygm_run.specs.declared.line_reader.Got.{Got}
 use Rattle.ygm_run.specs.declared.line_reader.Got.TheVariants.{Line, More, End}
 use Rattle.ygm_run.specs.declared.line_reader.LineFault.{LineFault}
 use Rattle.ygm_run.specs.declared.line_reader.LineFault.TheVariants.{ReadFault, LineTooLong, NoMemory}
-use Rattle.ygm_run.specs.declared.pieces.TheConstants.{READING_SPACE}
 use Rattle.ygm_run.specs.Lines.{lines_of, text_of, max_line, LacksLf}
 
 -- what a turn answers
@@ -39,13 +38,13 @@ pub record RawLineTaken (text : List ℕ) (before now : Told) : Type 0 where
 
 -- at most a piece is gone from the front of what was left
 abbrev pub PieceTaken : Told → Told → Type 0
-PieceTaken before now = (piece : List ℕ) × TakenFrom piece before now × (length piece ≤ READING_SPACE)
+PieceTaken before now = (piece : List ℕ) × TakenFrom piece before now × (length piece ≤ 65536)
 
 -- a piece went behind bytes in which no line ends, and which were no more than a line may have
 pub record PieceBehind (before now : List ℕ) : Type 0 where
   pub piece : List ℕ
   pub behind : now ≡ before ++ piece
-  pub one : length piece ≤ READING_SPACE
+  pub one : length piece ≤ 65536
   pub partial : LacksLf before
   pub short : length before ≤ max_line
 

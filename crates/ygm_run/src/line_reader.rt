@@ -122,7 +122,7 @@ impl LineReader {
         ensures raw_line { IfLine result (λ line.
             RawLineTaken line (to_come self.old.held (S.left source.old)) (to_come self.new.held (S.left source.new))) }
         ensures line_counted { OnLine result (self.new.given ≡ min (self.old.given + 1) (2 ^ 64 - 1)) }
-        ensures line_bound { OnLine result (length self.new.held ≤ READING_SPACE) }
+        ensures line_bound { OnLine result (length self.new.held ≤ 65536) }
 
         // Every other answer loses and repeats nothing.
         ensures to_come_stands { UnlessLine result
