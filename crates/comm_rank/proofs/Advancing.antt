@@ -1,6 +1,6 @@
 -- Ranks that go on, turn by turn.
-use Rattle.std.proofs.Common.{◌≡◌, ℕ, Option, Some, List, [], ◌++◌, length, get_or, slice_get, refl, sym, ap, ◌∙◌, subst, inl, arith, append-nil}
-use Rattle.std.proofs.lemmas.Option.{slice_get-get_or, slice_get_within}
+use Rattle.std.proofs.Common.{◌≡◌, ℕ, Some, List, [], ◌++◌, length, get_or, slice_get, refl, sym, ap, ◌∙◌, subst, inl, arith, append-nil}
+use Rattle.std.proofs.lemmas.Option.{same_Some, slice_get-get_or, slice_get_within}
 use Rattle.world_core.specs.declared.entry.Entry.{Entry}
 use Rattle.world_core.specs.Pairs.{for_rank}
 use Rattle.world_core.specs.Plain.{Plain, told_by}
@@ -16,11 +16,8 @@ use Rattle.comm_rank.specs.declared.fault.CommFault.{CommFault}
 use Rattle.comm_rank.proofs.Joining.{advanced_more}
 use Rattle.comm_rank.proofs.Stops.{if_stopped}
 
-some_is : {X : Type 0} (x y : X) → (let o : Option X = Some x in o) ≡ Some y → x ≡ y
-some_is x y h = cc
-
 pub same_item : {X : Type 0} (xs : List X) (k : ℕ) (x y : X) → slice_get xs k ≡ Some x → slice_get xs k ≡ Some y → x ≡ y
-same_item xs k x y e f = some_is x y (sym e ∙ f)
+same_item xs k x y e f = same_Some x y (sym e ∙ f)
 
 pub item_there : {X : Type 0} (xs ys : List X) (k : ℕ) (x : X) → slice_get xs k ≡ Some x → length ys ≡ length xs → slice_get ys k ≡ Some (get_or ys k x)
 item_there xs ys k x e all = slice_get-get_or ys k x (let lt = slice_get_within xs k x e in omega (arith, lt, all))
@@ -61,7 +58,7 @@ module _ {C : Type 0} (apply : Applies C) where
   pub stands : (before after : List (Rank C)) (old new : Plain) (rank : ℕ) → slice_get after rank ≡ slice_get before rank → log_of new.world rank ≡ log_of old.world rank →
       HasAdvanced apply before after old new rank
   stands before after old new rank same log b a e f =
-      let is : b ≡ a = some_is b a (sym e ∙ sym same ∙ f) in
+      let is : b ≡ a = same_Some b a (sym e ∙ sym same ∙ f) in
       let P : List Entry → Type 0 = λ xs. Advanced apply b b (log_of old.world rank) xs [] in
       ([], subst (λ (me : Rank C). Advanced apply b me (log_of old.world rank) (log_of new.world rank) []) is (subst P (sym log) (advanced_none apply b (log_of old.world rank))))
 
@@ -109,7 +106,7 @@ module _ {C : Type 0} (apply : Applies C) where
             same_rank = same_rank_more before mid last.began alike last.same_rank;
             advanced = advanced_more apply before mid last.began (log_of x.world rank) (log_of y.world rank) last.log alike one.0 last.run one.1 last.advanced;
             cut_off = last.cut_off;
-            one_too_many = last.one_too_many;
+            full_at_first = last.full_at_first;
           };
       others = λ other ne. has_advanced_more other (first other) (failed.others other ne);
     }

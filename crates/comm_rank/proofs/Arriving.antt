@@ -3,6 +3,7 @@ use Rattle.std.proofs.Common.{◌≡◌, ◌≢◌, ℕ, suc, ◌-◌, ◌<◌, 
 use Rattle.std.specs.Bool.{IsTrue}
 use Rattle.std.specs.List.{AllByRecursion}
 use Rattle.std.proofs.Math.Seq.{take-append_seam}
+use Rattle.std.proofs.lemmas.Bool.{false_from_ne_true}
 use Rattle.std.proofs.lemmas.List.Elements.{filter-append}
 use Rattle.msg_codec.specs.declared.letter.Letter.{Letter}
 use Rattle.ygm_route.specs.declared.scheme.Scheme.{Scheme}
@@ -22,7 +23,7 @@ use Rattle.world_core.specs.Sound.{IsOnPath}
 use Rattle.world_core.proofs.Batch.{pair_put-took, pair_taken-took}
 use Rattle.world_core.proofs.Entries.{letters_put-took, letters_taken-took}
 use Rattle.world_core.proofs.Lists.{all_second, all_weaker, filter_none, and_first, and_second}
-use Rattle.world_core.proofs.Only.{all_taken, false_test}
+use Rattle.world_core.proofs.Only.{all_taken}
 use Rattle.comm_rank.specs.Agrees.{IsSublist}
 use Rattle.comm_rank.specs.Rank.{Rank, ran_at}
 use Rattle.comm_rank.specs.Running.{IsFor, IsOf}
@@ -46,12 +47,12 @@ own_all here (x ∷ xs) h =
 pub none_of_others : (here from to : ℕ) (xs : List Letter) → from ≢ here → AllByRecursion (IsOf here) xs → of_pair from to xs ≡ []
 none_of_others here from to xs ne all =
     filter_none (is_of_pair from to) xs (all_weaker (IsOf here) (λ l. is_of_pair from to l ≡ false) xs
-    (λ l h. false_test _ (λ yes. ne (sym (eqb-true _ _ (and_second _ _ (and_first _ _ yes))) ∙ h.sender))) all)
+    (λ l h. false_from_ne_true _ (λ yes. ne (sym (eqb-true _ _ (and_second _ _ (and_first _ _ yes))) ∙ h.sender))) all)
 
 none_to_others : (here from to : ℕ) (xs : List Letter) → here ≢ to → AllByRecursion (IsFor here) xs → of_pair from to xs ≡ []
 none_to_others here from to xs ne all =
     filter_none (is_of_pair from to) xs (all_weaker (IsFor here) (λ l. is_of_pair from to l ≡ false) xs
-    (λ l h. false_test _ (λ yes. ne (sym h.destination ∙ eqb-true _ _ (and_second _ _ yes)))) all)
+    (λ l h. false_from_ne_true _ (λ yes. ne (sym h.destination ∙ eqb-true _ _ (and_second _ _ yes)))) all)
 
 -- ---- a take
 

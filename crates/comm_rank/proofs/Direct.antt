@@ -2,7 +2,7 @@
 use Rattle.std.proofs.Common.{◌≡◌, ◌≢◌, ℕ, zero, suc, Bool, true, false, not, ◌&&◌, ◌||◌, nat_eq, eq-eqb, eqb-true, List, [], ◌∷◌, length, drop, refl, sym, ap, ◌∙◌, subst, inl, inr, if◌then◌else◌}
 use Rattle.std.specs.Bool.{IsTrue}
 use Rattle.std.specs.List.{AllByRecursion, list_any}
-use Rattle.std.proofs.lemmas.Bool.{cases_eq}
+use Rattle.std.proofs.lemmas.Bool.{cases_eq, false_from_ne_true}
 use Rattle.msg_codec.specs.declared.letter.Letter.{Letter}
 use Rattle.ygm_route.specs.declared.scheme.Scheme.{Scheme}
 use Rattle.ygm_route.specs.declared.scheme.Scheme.TheVariants.{Direct}
@@ -15,7 +15,7 @@ use Rattle.world_core.specs.Log.{batches_taken, letters_of, letters_taken}
 use Rattle.world_core.specs.Modest.{IsModest}
 use Rattle.world_core.specs.Pairs.{is_data, is_of_pair, pair_put, pair_taken}
 use Rattle.world_core.proofs.Lists.{all_weaker, and_first, and_second, filter_none}
-use Rattle.world_core.proofs.Only.{all_taken, false_test}
+use Rattle.world_core.proofs.Only.{all_taken}
 
 -- the only link of such a path leads to the destination
 one_link : (next d s a b : ℕ) (more : List ℕ) → next ≡ d → list_any (λ (link : ℕ × ℕ). nat_eq link.0 a && nat_eq link.1 b) (links_from s (next ∷ (if nat_eq next d then [] else more))) ≡ true → b ≡ d
@@ -48,7 +48,7 @@ module _ (me : Local) (direct : me.scheme ≡ Direct) (modest : IsModest me) whe
 
   pub none_taken : (s d : ℕ) → d ≢ me.here → pair_taken s d me.log ≡ []
   none_taken s d other = filter_none (is_of_pair s d) (letters_taken me.log) (all_weaker _ _ (letters_taken me.log)
-      (λ l here. false_test (is_of_pair s d l) (λ yes.
+      (λ l here. false_from_ne_true (is_of_pair s d l) (λ yes.
       other (sym (eqb-true l.to d (and_second (is_data l && nat_eq l.from s) (nat_eq l.to d) yes))
       ∙ here (and_first (is_data l) (nat_eq l.from s) (and_first (is_data l && nat_eq l.from s) (nat_eq l.to d) yes))))) taken_here)
 

@@ -83,29 +83,30 @@ module _ (here to : ℕ) (a b : List (List Letter)) (old mid new : Told) (placed
   pub later_next : (full : Bool) → PutUntil full here to b mid new → (d : ℕ) → to + 1 ≤ d → new.fulls d ≡ old.fulls d
   later_next full until d le = other_fulls full until d (λ e. absurd (omega (arith, e))) ∙ later d (omega arith)
 
-  -- the first full link stays the first
-  pub first_stays : (full : Bool) (first : ℕ) → PutUntil full here to b mid new → first < to → FirstFull a old mid (Some first) → FirstFull b old new (Some first)
-  first_stays full first until lt h =
-      let other : first ≢ to = (λ e. absurd (omega (arith, e))) in
-      let e : new.fulls first ≡ mid.fulls first = other_fulls full until first other in
-      (omega (arith, h.0, e), λ none. h.1 (sym (others.1 first other) ∙ none), λ lower below. other_fulls full until lower (λ k. absurd (omega (arith, k))) ∙ h.2 lower below)
+  module _ (ranks : ℕ) where
+    -- the first full link stays the first
+    pub first_stays : (full : Bool) (first : ℕ) → PutUntil full here to b mid new → first < to → FirstFull ranks a old mid (Some first) → FirstFull ranks b old new (Some first)
+    first_stays full first until lt h =
+        let other : first ≢ to = (λ e. absurd (omega (arith, e))) in
+        let e : new.fulls first ≡ mid.fulls first = other_fulls full until first other in
+        (h.0, omega (arith, h.1, e), λ none. h.2 (sym (others.1 first other) ∙ none), λ lower below. other_fulls full until lower (λ k. absurd (omega (arith, k))) ∙ h.3 lower below)
 
-  pub first_here : PutUntil true here to b mid new → SameFulls old mid → FirstFull b old new (Some to)
-  first_here until same =
-      let e : mid.fulls to ≡ old.fulls to = same to in
-      (omega (arith, until.0.rose, e), until.0.some, λ lower below. other_fulls true until lower (λ k. absurd (omega (arith, k))) ∙ same lower)
+    pub first_here : to < ranks → PutUntil true here to b mid new → SameFulls old mid → FirstFull ranks b old new (Some to)
+    first_here within until same =
+        let e : mid.fulls to ≡ old.fulls to = same to in
+        (within, omega (arith, until.0.rose, e), until.0.some, λ lower below. other_fulls true until lower (λ k. absurd (omega (arith, k))) ∙ same lower)
 
-  pub none_stays : PutUntil false here to b mid new → SameFulls old mid → FirstFull b old new None
-  none_stays until same d = until.1 d ∙ same d
+    pub none_stays : PutUntil false here to b mid new → SameFulls old mid → FirstFull ranks b old new None
+    none_stays until same d = until.1 d ∙ same d
 
-  pub first_next_full : (was now : Option ℕ) → PutUntil true here to b mid new → FirstFull a old mid was → Below to was → now ≡ option_or was (Some to) → FirstFull b old new now × Below (to + 1) now
-  first_next_full None now until first below is =
-      let P : Option ℕ → Type 0 = λ o. FirstFull b old new o × Below (to + 1) o in subst P (sym is) (first_here until first, omega arith)
-  first_next_full (Some rank) now until first below is =
-      let P : Option ℕ → Type 0 = λ o. FirstFull b old new o × Below (to + 1) o in subst P (sym is) (first_stays true rank until below first, omega (arith, below))
+    pub first_next_full : (was now : Option ℕ) → to < ranks → PutUntil true here to b mid new → FirstFull ranks a old mid was → Below to was → now ≡ option_or was (Some to) → FirstFull ranks b old new now × Below (to + 1) now
+    first_next_full None now within until first below is =
+        let P : Option ℕ → Type 0 = λ o. FirstFull ranks b old new o × Below (to + 1) o in subst P (sym is) (first_here within until first, omega arith)
+    first_next_full (Some rank) now within until first below is =
+        let P : Option ℕ → Type 0 = λ o. FirstFull ranks b old new o × Below (to + 1) o in subst P (sym is) (first_stays true rank until below first, omega (arith, below))
 
-  pub first_next : (was now : Option ℕ) → PutUntil false here to b mid new → FirstFull a old mid was → Below to was → now ≡ was → FirstFull b old new now × Below (to + 1) now
-  first_next None now until first below is =
-      let P : Option ℕ → Type 0 = λ o. FirstFull b old new o × Below (to + 1) o in subst P (sym is) (none_stays until first, tt)
-  first_next (Some rank) now until first below is =
-      let P : Option ℕ → Type 0 = λ o. FirstFull b old new o × Below (to + 1) o in subst P (sym is) (first_stays false rank until below first, omega (arith, below))
+    pub first_next : (was now : Option ℕ) → PutUntil false here to b mid new → FirstFull ranks a old mid was → Below to was → now ≡ was → FirstFull ranks b old new now × Below (to + 1) now
+    first_next None now until first below is =
+        let P : Option ℕ → Type 0 = λ o. FirstFull ranks b old new o × Below (to + 1) o in subst P (sym is) (none_stays until first, tt)
+    first_next (Some rank) now until first below is =
+        let P : Option ℕ → Type 0 = λ o. FirstFull ranks b old new o × Below (to + 1) o in subst P (sym is) (first_stays false rank until below first, omega (arith, below))

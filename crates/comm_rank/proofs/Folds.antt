@@ -6,11 +6,11 @@ use Rattle.msg_codec.specs.declared.letter.Letter.{Letter}
 use Rattle.comm_rank.specs.declared.handler.Outbound.{Outbound}
 use Rattle.comm_rank.specs.declared.fault.CommFault.{CommFault}
 use Rattle.comm_rank.specs.declared.fault.CommFault.TheVariants.{Stopped, CountFull, NoMemory}
-use Rattle.comm_rank.specs.Fault.{IfCountFull, IsFullAt}
+use Rattle.comm_rank.specs.Fault.{IfCountFull}
 use Rattle.comm_rank.specs.Fold.{Applies, letter_by, given_by, fold_from, handed_from}
 use Rattle.comm_rank.specs.Held.{Gains}
 use Rattle.comm_rank.specs.Rank.{Rank, folded, handed}
-use Rattle.comm_rank.specs.Turns.{HasBegun}
+use Rattle.comm_rank.specs.Turns.{HasBegun, IsFullBehind}
 use Rattle.ygm_route.specs.Layout.{Shape}
 use Rattle.world_core.proofs.Lists.{all_append, all_second}
 use Rattle.comm_rank.proofs.Gaining.{gains_none, gains_more}
@@ -44,10 +44,10 @@ pub on_err : {A E : Type 0} (r : Result A E) (P : Type 0) → P → OnErr r P
 on_err (Ok a) P p = tt
 on_err (Err e) P p = p
 
-pub too_many : (count most all : ℕ) → count < all → (fault : CommFault) → IsFullAt count most fault → IfCountFull fault (λ _. most < all)
-too_many count most all h Stopped f = tt
-too_many count most all h NoMemory f = tt
-too_many count most all h (CountFull at) f = omega (arith, f.0)
+pub full_weaker : (P Q : ℕ → Type 0) → ((at : ℕ) → P at → Q at) → (fault : CommFault) → IfCountFull fault P → IfCountFull fault Q
+full_weaker P Q more Stopped h = tt
+full_weaker P Q more NoMemory h = tt
+full_weaker P Q more (CountFull at) h = more at h
 
 pub first_of : (waiting : List Letter) (l : Letter) → slice_get waiting 0 ≡ Some l → waiting ≡ l ∷ drop 1 waiting
 first_of [] l h = absurd cc
@@ -103,20 +103,17 @@ module _ {C : Type 0} (apply : Applies C) (was old new : Rank C) (e : was ≡ ol
           };
         })
 
--- more was given than is held of it
-pub more_given : {C : Type 0} (apply : Applies C) (was old : Rank C) (e : was ≡ old) (outs : List Outbound) (l : Letter) (k : ℕ) → outs ≡ (apply was.contents was.here was.layout.ranks l).1 →
-    slice_get was.waiting 0 ≡ Some l → k < length outs → was.sent_count + k < old.sent_count + length (handed apply old old.waiting)
-more_given {C} apply was old e outs l k is first few =
+-- by the letter that waits first more was given than may be sent
+pub full_behind : {C : Type 0} (apply : Applies C) (was old new : Rank C) (e : was ≡ old) (outs : List Outbound) (l : Letter) → outs ≡ (apply was.contents was.here was.layout.ranks l).1 →
+    slice_get was.waiting 0 ≡ Some l → new.waiting ≡ was.waiting → was.most < was.sent_count + length outs → IsFullBehind apply old new []
+full_behind {C} apply was old new e outs l is first waits more =
     let given = given_by apply was.here was.layout.ranks was.contents l in
     let size : length given ≡ length outs = ap (λ xs. length (map (letter_by was.here) xs)) (sym is) ∙ length-map outs (letter_by was.here) in
-    subst (λ (me : Rank C). was.sent_count + k < me.sent_count + length (handed apply me me.waiting)) e
-    (omega (
-      arith,
-      few,
-      size,
-      ap (λ w. length (handed apply was w)) (first_of was.waiting l first),
-      length-append given (handed_from apply was.here was.layout.ranks (apply was.contents was.here was.layout.ranks l).0 (drop 1 was.waiting)),
-    ))
+    subst (λ (me : Rank C). IsFullBehind apply me new []) e (record {
+      next = l;
+      waits = ap (λ w. slice_get w 0) waits ∙ first;
+      too_many = omega (arith, more, size, ap length (append-nil given));
+    })
 
 -- what a handler gave where nothing was given before, and what it made of its contents
 pub outs_are : {C : Type 0} (apply : Applies C) (here n m : ℕ) (c : C) (l : Letter) (old new : List Outbound) → n ≡ m → old ≡ [] → new ≡ old ++ (apply c here n l).1 → new ≡ (apply c here m l).1
@@ -127,10 +124,6 @@ pub made_are : {C : Type 0} (apply : Applies C) (here n m : ℕ) (c new : C) (l 
 made_are apply here n m c new l same is = is ∙ ap (λ k. (apply c here k l).0) same
 
 -- ---- letter after letter
-
--- no letter ran yet
-pub ran_none : {C : Type 0} (apply : Applies C) (me : Rank C) → HasRunAll apply me me []
-ran_none apply me = record { contents = refl; held = gains_none me.held; lawful = tt; run_count = omega arith; sent_count = omega arith }
 
 module _ {C : Type 0} (apply : Applies C) (old mid new : Rank C) (same_here : mid.here ≡ old.here) (same_layout : mid.layout ≡ old.layout) where
   -- what runs at a rank later runs at the contents that the first letters left
@@ -187,9 +180,23 @@ module _ {C : Type 0} (apply : Applies C) (old mid new : Rank C) (same_here : mi
         sent_count = omega (arith, first.sent_count, second.sent_count, ap length on, length-append (handed apply old run) (handed apply mid more));
       }
 
-  -- more was given than may be sent
-  pub too_many_later : (run rest : List Letter) → HasRunAll apply old mid run → mid.sent_count + length (handed apply mid rest) ≡ old.sent_count + length (handed apply old (run ++ rest))
-  too_many_later run rest first = omega (arith, first.sent_count, ap length (handed_on run first.contents rest), length-append (handed apply old run) (handed apply mid rest))
+  pub full_later : (run more : List Letter) → mid.most ≡ old.most → mid.contents ≡ folded apply old run → mid.sent_count ≡ old.sent_count + length (handed apply old run) →
+      IsFullBehind apply mid new more → IsFullBehind apply old new (run ++ more)
+  full_later run more most contents sent behind =
+      let all = more ++ behind.next ∷ [] in
+      record {
+        next = behind.next;
+        waits = behind.waits;
+        too_many = omega (
+          arith,
+          behind.too_many,
+          most,
+          sent,
+          ap length (handed_on run contents all),
+          length-append (handed apply old run) (handed apply mid all),
+          ap (λ xs. length (handed apply old xs)) (append_assoc run more (behind.next ∷ [])),
+        );
+      }
 
 -- the letters behind the first of those that waited
 pub waits_one_less : (waiting run rest now : List Letter) (l : Letter) → waiting ≡ run ++ rest → rest ≡ l ∷ now → waiting ≡ (run ++ l ∷ []) ++ now
@@ -198,8 +205,3 @@ waits_one_less waiting run rest now l e f = e ∙ ap (λ w. run ++ w) f ∙ sym 
 pub rest_for : (here there : ℕ) (waiting run rest : List Letter) → waiting ≡ run ++ rest → here ≡ there → AllByRecursion (IsFor there) waiting → AllByRecursion (IsFor here) rest
 rest_for here there waiting run rest e same all =
     subst (λ h. AllByRecursion (IsFor h) rest) (sym same) (all_second (IsFor there) run rest (subst (AllByRecursion (IsFor there)) e all))
-
-pub too_many_there : (most most' : ℕ) (a b : ℕ) → most' ≡ most → a ≡ b → (fault : CommFault) → IfCountFull fault (λ _. most' < a) → IfCountFull fault (λ _. most < b)
-too_many_there most most' a b e f Stopped h = tt
-too_many_there most most' a b e f NoMemory h = tt
-too_many_there most most' a b e f (CountFull at) h = omega (arith, h)

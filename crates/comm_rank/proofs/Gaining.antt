@@ -1,5 +1,5 @@
 -- Letters that are held more, one after another.
-use Rattle.std.proofs.Common.{◌≡◌, ℕ, suc, zero, ◌+◌, Bool, Some, List, [], ◌∷◌, ◌++◌, length, take, slice_get, refl, sym, ap, ◌∙◌, subst, append-nil, append_assoc, arith, ◌&&◌, ◌==◌, length-append}
+use Rattle.std.proofs.Common.{◌≡◌, ℕ, ◌+◌, Bool, Some, List, [], ◌∷◌, ◌++◌, length, take, slice_get, sym, ap, ◌∙◌, subst, append-nil, append_assoc, arith, ◌&&◌, ◌==◌, length-append}
 use Rattle.std.proofs.lemmas.List.Elements.{filter-append}
 use Rattle.msg_codec.specs.declared.letter.Letter.{Letter}
 use Rattle.world_core.specs.Log.{letters_of}
@@ -23,11 +23,3 @@ gains_more a b c xs ys first later = record {
 -- one letter more of a list
 pub gains_next : (a b c : List (List Letter)) (all : List Letter) (k : ℕ) (l : Letter) → Gains a b (take k all) → slice_get all k ≡ Some l → Gains b c (l ∷ []) → Gains a c (take (k + 1) all)
 gains_next a b c all k l first at later = subst (Gains a c) (sym (taken_more all k l at)) (gains_more a b c (take k all) (l ∷ []) first later)
-
-pub gains_all : (a b : List (List Letter)) (all : List Letter) (k : ℕ) → k ≡ length all → Gains a b (take k all) → Gains a b all
-gains_all a b all k end first = subst (Gains a b) (taken_all all k end) first
-  where
-    taken_all : (xs : List Letter) (k : ℕ) → k ≡ length xs → take k xs ≡ xs
-    taken_all [] k end = let e : k ≡ 0 = end in rw e refl
-    taken_all (x ∷ xs) zero end = absurd (omega (arith, end))
-    taken_all (x ∷ xs) (suc k) end = ap (λ ys. x ∷ ys) (taken_all xs k (omega (arith, end)))

@@ -1,14 +1,13 @@
 -- Letters held by destination: what one more letter, or one less, is to each pair of ranks.
 use Rattle.std.proofs.Common.{◌≡◌, ◌≢◌, ℕ, zero, suc, ◌+◌, ◌<◌, Bool, true, false, ◌&&◌, ◌==◌, nat_eq, List, [], ◌∷◌, ◌++◌, length, replicate, get_or, set, refl, sym, ap, ◌∙◌, subst, inl, inr, append-nil, arith, length-append, length-set}
 use Rattle.std.specs.List.{AllByRecursion}
-use Rattle.std.proofs.lemmas.Bool.{cases_eq}
+use Rattle.std.proofs.lemmas.Bool.{cases_eq, false_from_ne_true}
 use Rattle.std.proofs.lemmas.List.{get_or-set_other, get_or-set_same, get_or-replicate, length-replicate}
 use Rattle.std.proofs.lemmas.List.Elements.{filter-append}
 use Rattle.msg_codec.specs.declared.letter.Letter.{Letter}
 use Rattle.world_core.specs.Log.{letters_of}
 use Rattle.world_core.specs.Pairs.{is_data, is_of_pair, of_pair, of_sender}
 use Rattle.world_core.proofs.Lists.{all_append, all_weaker, filter_none, and_second}
-use Rattle.world_core.proofs.Only.{false_test}
 use Rattle.comm_rank.specs.Held.{AreApart, AreHeld, Gains, IsHeldFor, Loses, held_for, holding}
 
 -- ---- each list has its destination's letters
@@ -17,7 +16,7 @@ abbrev None_to : ℕ → List Letter → Type 0
 None_to to = AllByRecursion (λ (l : Letter). l.to ≢ to)
 
 other_pair : (s d : ℕ) (l : Letter) → l.to ≢ d → is_of_pair s d l ≡ false
-other_pair s d l other = false_test _ (λ h. other (let e : nat_eq l.to d ≡ true = and_second (is_data l && nat_eq l.from s) (nat_eq l.to d) h in grind (arith, e)))
+other_pair s d l other = false_from_ne_true _ (λ h. other (let e : nat_eq l.to d ≡ true = and_second (is_data l && nat_eq l.from s) (nat_eq l.to d) h in grind (arith, e)))
 
 pub none_of_pair : (s d : ℕ) (ls : List Letter) → None_to d ls → of_pair s d ls ≡ []
 none_of_pair s d ls h = filter_none (is_of_pair s d) ls (all_weaker _ _ ls (other_pair s d) h)

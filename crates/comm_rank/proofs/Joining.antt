@@ -1,7 +1,6 @@
 -- Takes from one rank after another.
-use Rattle.std.proofs.Common.{◌≡◌, ◌≢◌, ℕ, zero, suc, ◌+◌, ◌<◌, ◌≤◌, List, [], ◌∷◌, ◌++◌, length, drop, get_or, refl, sym, ap, ◌∙◌, subst, inl, inr, arith, append-nil, append_assoc, length-append}
+use Rattle.std.proofs.Common.{◌≡◌, ◌≢◌, ℕ, zero, suc, ◌+◌, ◌<◌, ◌≤◌, List, [], ◌∷◌, ◌++◌, length, get_or, refl, sym, ap, ◌∙◌, subst, inl, inr, arith, append-nil, append_assoc, length-append}
 use Rattle.std.specs.List.{AllByRecursion, AllPairs}
-use Rattle.std.proofs.Math.Seq.{drop-append_seam}
 use Rattle.std.proofs.lemmas.Bool.{cases_eq}
 use Rattle.std.proofs.lemmas.Grind.{flat_map-append}
 use Rattle.std.proofs.lemmas.List.Elements.{filter-append}
@@ -9,14 +8,15 @@ use Rattle.std.proofs.lemmas.List.Quantifiers.{all_pairs_push}
 use Rattle.msg_codec.specs.declared.letter.Letter.{Letter}
 use Rattle.world_core.specs.declared.entry.Entry.{Entry}
 use Rattle.world_core.specs.Log.{batches_taken, letters_taken, letters_taken_by}
-use Rattle.world_core.specs.Pairs.{arrived, for_rank, is_of_pair, of_pair}
-use Rattle.world_core.specs.Post.{Told, Rose}
+use Rattle.world_core.specs.Pairs.{for_rank, is_of_pair, of_pair}
+use Rattle.world_core.specs.Post.{Told}
+use Rattle.world_core.specs.Rising.{Rose}
 use Rattle.world_core.proofs.Lists.{all_append, all_weaker}
 use Rattle.comm_rank.specs.Fold.{Applies}
 use Rattle.comm_rank.specs.Rank.{Rank, IsSameRank, handed, ran_at, sent_to}
 use Rattle.comm_rank.specs.Running.{CutFrom, NotLookedAt, PostTook, TookBelow, TookFrom}
-use Rattle.comm_rank.specs.Turns.{Advanced, CutOff, IsTake, LookedAt, came_in, other_end}
-use Rattle.comm_rank.proofs.Folds.{begun_same, folded_on, handed_on}
+use Rattle.comm_rank.specs.Turns.{Advanced, CutOff, FullAtFirst, IsTake, LookedAt, other_end}
+use Rattle.comm_rank.proofs.Folds.{begun_same, folded_on, full_later, handed_on}
 
 -- ---- in the order of ranks
 
@@ -123,29 +123,15 @@ module _ {C : Type 0} (apply : Applies C) (old mid new : Rank C) (before between
               omega (arith, first.all.advanced.sent_count, c.sent_count, ap length (handed_both run c.run first.all.advanced), length-append (handed apply old run) (handed apply mid c.run));
         }
 
-    -- what came, and what it would have given
-    pub handed_later : CutFrom from apply mid new between after →
-        mid.sent_count + length (handed apply mid (came_in mid.here between after)) ≡ old.sent_count + length (handed apply old (came_in old.here before after))
-    handed_later second =
-        let c = second.cut in
-        let here = old.here in
-        let run = for_rank here (letters_taken first.all.taken) in
-        let later = for_rank here (letters_taken c.taken) in
-        let log : after ≡ between ++ c.taken = c.gained.log ∙ ap (λ xs. (between ++ c.taken) ++ xs) second.none_placed ∙ append-nil _ in
-        let middle : arrived here between ≡ arrived here before ++ run = ap (arrived here) first.all.gained.log ∙ taken_append here before first.all.taken in
-        let last : arrived here after ≡ arrived here between ++ later = ap (arrived here) log ∙ taken_append here between c.taken in
-        let whole : arrived here after ≡ arrived here before ++ (run ++ later) = last ∙ ap (λ xs. xs ++ later) middle ∙ append_assoc (arrived here before) run later in
-        let came_mid : came_in mid.here between after ≡ later =
-        ap (λ h. came_in h between after) same.here ∙ ap (drop (length (arrived here between))) last ∙ drop-append_seam (arrived here between) later in
-        let came_old : came_in here before after ≡ run ++ later = ap (drop (length (arrived here before))) whole ∙ drop-append_seam (arrived here before) (run ++ later) in
-        omega (
-          arith,
-          first.all.advanced.sent_count,
-          ap (λ xs. length (handed apply mid xs)) came_mid,
-          ap (λ xs. length (handed apply old xs)) came_old,
-          ap length (handed_both run later first.all.advanced),
-          length-append (handed apply old run) (handed apply mid later),
-        )
+    pub full_joined : FullAtFirst apply mid new between after → FullAtFirst apply old new before after
+    full_joined second =
+        let ahead = first.all.advanced in
+        let run = for_rank old.here (letters_taken first.all.taken) in
+        record {
+          run = run ++ second.run;
+          ran = second.ran ∙ ap (λ xs. xs ++ second.run) ahead.ran ∙ append_assoc (ran_at old before) run second.run;
+          behind = full_later apply old mid new same.here same.layout run second.run same.most ahead.contents ahead.sent_count second.behind;
+        }
 
 pub took_nothing : {C : Type 0} (apply : Applies C) (me : Rank C) (log : List Entry) (bound : ℕ) → me.waiting ≡ [] → TookBelow bound apply me me log log 0
 took_nothing apply me log bound none = record {

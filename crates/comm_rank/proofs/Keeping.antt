@@ -21,15 +21,15 @@ use Rattle.comm_rank.specs.Turns.{CutOff}
 use Rattle.comm_rank.specs.declared.fault.CommFault.{CommFault}
 use Rattle.comm_rank.proofs.Advancing.{item_there, same_item}
 use Rattle.comm_rank.proofs.Arriving.{ran_all, ran_is}
+use Rattle.comm_rank.proofs.Beginnings.{filter_within, pair_of_rank}
 use Rattle.comm_rank.proofs.Joining.{taken_append}
 use Rattle.comm_rank.proofs.Loading.{put_is, taken_is}
 use Rattle.comm_rank.proofs.PutOut.{same_taken}
-use Rattle.comm_rank.proofs.Settling.{of_those, twice}
 
 -- ---- a link
 
 again : (from to : ℕ) (xs : List Letter) → of_pair from to (of_pair from to xs) ≡ of_pair from to xs
-again from to xs = twice (is_of_pair from to) (is_of_pair from to) (λ l h. h) xs
+again from to xs = filter_within (is_of_pair from to) (is_of_pair from to) xs (λ l h. h)
 
 -- what was put is what was taken, and then what is in the link
 taken_then_link : (world : Logs) → IsWorld world → world.scheme ≡ Direct → 0 < world.layout.ranks → (from to : ℕ) →
@@ -77,8 +77,8 @@ ran_then_waits : {C : Type 0} (me : Rank C) (from to : ℕ) (log : List Entry) �
 ran_then_waits me from to log keeps =
     let P : ℕ → Type 0 = λ h. of_pair from h (ran_at me log) ≡ ran_from me log from in
     let ran : of_pair from to (ran_at me log) ≡ ran_from me log from = subst P keeps.here refl in
-    sym (of_those from to (letters_taken log)) ∙ ap (of_pair from to) keeps.arrived ∙ filter-append (is_of_pair from to) (ran_at me log) (for_rank to me.waiting)
-    ∙ ap (λ xs. xs ++ of_pair from to (for_rank to me.waiting)) ran ∙ ap (λ xs. ran_from me log from ++ xs) (of_those from to me.waiting)
+    sym (pair_of_rank from to (letters_taken log)) ∙ ap (of_pair from to) keeps.arrived ∙ filter-append (is_of_pair from to) (ran_at me log) (for_rank to me.waiting)
+    ∙ ap (λ xs. xs ++ of_pair from to (for_rank to me.waiting)) ran ∙ ap (λ xs. ran_from me log from ++ xs) (pair_of_rank from to me.waiting)
 
 -- ---- all ranks
 

@@ -1,6 +1,6 @@
 -- What one turn over plain links does to them.
-use Rattle.std.proofs.Common.{◌≡◌, ◌≢◌, ◌⊎◌, ℕ, zero, suc, ◌+◌, ◌<◌, ◌≤◌, Bool, true, false, ◌&&◌, ◌||◌, nat_eq, leb-true, lt-ltb, Some, List, [], ◌∷◌, ◌++◌, length, drop, filter, set, get_or, slice_get, refl, sym, ap, ◌∙◌, subst, inl, inr, arith, append-nil, append_assoc, length-append, length-set}
-use Rattle.std.proofs.lemmas.Bool.{cases_eq}
+use Rattle.std.proofs.Common.{◌≡◌, ◌≢◌, ◌⊎◌, ℕ, zero, suc, ◌+◌, ◌<◌, ◌≤◌, Bool, false, leb-true, lt-ltb, Some, List, [], ◌∷◌, ◌++◌, length, drop, set, slice_get, refl, sym, ap, ◌∙◌, subst, inl, inr, arith, append-nil, append_assoc, length-append, length-set}
+use Rattle.std.proofs.lemmas.Bool.{cases_eq, or_cases}
 use Rattle.std.proofs.lemmas.Grind.{flat_map-append}
 use Rattle.std.proofs.lemmas.List.Elements.{filter-append}
 use Rattle.std.proofs.lemmas.Option.{slice_get_within}
@@ -9,10 +9,11 @@ use Rattle.ygm_route.specs.declared.scheme.Scheme.TheVariants.{Direct}
 use Rattle.ygm_route.specs.Layout.{Shape}
 use Rattle.world_core.specs.Log.{batches_put, batches_taken, letters_put, letters_taken, letters_taken_by}
 use Rattle.world_core.specs.Modest.{IsWorld}
-use Rattle.world_core.specs.Pairs.{for_rank, is_data, is_of_pair, of_pair, of_sender, own, pair_put, pair_taken}
+use Rattle.world_core.specs.Pairs.{for_rank, is_of_pair, of_pair, of_sender, own, pair_put, pair_taken}
 use Rattle.world_core.specs.Plain.{Plain, told_by}
 use Rattle.world_core.specs.Post.{SamePost}
 use Rattle.world_core.specs.World.{link, log_of}
+use Rattle.world_core.proofs.Counted.{pair_of_sender}
 use Rattle.comm_rank.specs.declared.turn.Turn.{Turn}
 use Rattle.comm_rank.specs.Agrees.{Agrees}
 use Rattle.comm_rank.specs.Fold.{Applies}
@@ -38,36 +39,9 @@ item_kept (x ∷ xs) zero (suc j) y ne = refl
 item_kept (x ∷ xs) (suc k) zero y ne = refl
 item_kept (x ∷ xs) (suc k) (suc j) y ne = item_kept xs k j y (λ e. ne (ap suc e))
 
-pub item_at : {X : Type 0} (xs : List X) (k : ℕ) (x y : X) → k < length xs → y ≡ get_or xs k x → slice_get xs k ≡ Some (get_or xs k y)
-item_at [] k x y lt e = absurd (omega (arith, lt))
-item_at (z ∷ xs) zero x y lt e = refl
-item_at (z ∷ xs) (suc k) x y lt e = item_at xs k x y (omega (arith, lt)) e
-
 none_of : {X : Type 0} (xs : List X) → length xs ≡ 0 → xs ≡ []
 none_of [] e = refl
 none_of (x ∷ xs) e = absurd (omega (arith, e))
-
-fewer : (p q : Letter → Bool) → ((l : Letter) → p l ≡ true → q l ≡ true) → (xs : List Letter) → length (filter p xs) ≤ length (filter q xs)
-fewer p q h [] = omega arith
-fewer p q h (x ∷ xs) = by_test (p x) (q x) refl refl (fewer p q h xs)
-  where
-    by_test : (s t : Bool) → p x ≡ s → q x ≡ t → length (filter p xs) ≤ length (filter q xs) → length (filter p (x ∷ xs)) ≤ length (filter q (x ∷ xs))
-    by_test true true e f rest = rw (e, f) (omega (arith, rest))
-    by_test true false e f rest = absurd (let yes = h x e in cc)
-    by_test false true e f rest = rw (e, f) (omega (arith, rest))
-    by_test false false e f rest = rw (e, f) rest
-
-first_two : (a b c : Bool) → (a && b && c) ≡ true → (a && b) ≡ true
-first_two true true c h = refl
-first_two true false c h = absurd cc
-first_two false b c h = absurd cc
-
-pub pair_of_sender : (from to : ℕ) (xs : List Letter) → length (of_pair from to xs) ≤ length (of_sender from xs)
-pair_of_sender from to xs = fewer (is_of_pair from to) (λ l. is_data l && nat_eq l.from from) (λ l h. first_two (is_data l) (nat_eq l.from from) (nat_eq l.to to) h) xs
-
-either : (a b : Bool) → (a || b) ≡ true → (a ≡ true) ⊎ (b ≡ true)
-either true b h = inl refl
-either false b h = inr h
 
 pub sent_at : {C : Type 0} (comms : List (Rank C)) (links : Plain) (rank to : ℕ) (me : Rank C) → slice_get comms rank ≡ Some me → me.here ≡ rank →
     sent_length comms links rank to ≡ length (sent_to me (log_of links.world rank) to)
@@ -254,7 +228,7 @@ module _ {C : Type 0} (apply : Applies C) (start : C → C) (comms : List (Rank 
           let here : rank < new.world.layout.ranks = omega (arith, within, ranks.all, count) in
           elim (at.puts to (omega (arith, lt, count, count_me))) [
             | inl empty ↦ omega (arith, put, held_more to, ap length (empty.pairs rank))
-            | inr met ↦ elim (either _ _ (met.full (lt-ltb to old.world.layout.ranks (omega (arith, lt, count))))) [
+            | inr met ↦ elim (or_cases _ _ (met.full (lt-ltb to old.world.layout.ranks (omega (arith, lt, count))))) [
               | inl full ↦
                   let long : new.ring ≤ length (link new.world rank to) = leb-true new.ring (length (link new.world rank to)) full in
                   absurd (omega (arith, long, ap length none, room, at.same.ring))

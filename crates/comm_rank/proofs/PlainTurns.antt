@@ -1,5 +1,5 @@
 -- The clauses of a turn, as calls over plain links have them.
-use Rattle.std.proofs.Common.{◌≡◌, ◌≢◌, ℕ, ◌+◌, ◌<◌, ◌≤◌, true, Some, Result, Ok, Err, List, [], length, get_or, set, slice_get, sym, ap, ◌∙◌, subst, lt-ltb, arith, append-nil, append_assoc, inl, inr, ◌++◌}
+use Rattle.std.proofs.Common.{◌≡◌, ◌≢◌, ℕ, ◌<◌, ◌≤◌, true, Some, Result, Ok, Err, List, [], length, get_or, set, slice_get, sym, ap, ◌∙◌, subst, lt-ltb, arith, append-nil, append_assoc, inl, inr, ◌++◌}
 use Rattle.std.specs.Bool.{IsTrue}
 use Rattle.std.specs.Result.{IfErr, IfOk, OnErr}
 use Rattle.std.proofs.lemmas.Bool.{cases_eq}
@@ -19,9 +19,9 @@ use Rattle.comm_rank.specs.Agrees.{Agrees}
 use Rattle.comm_rank.specs.Fault.{IfCountFull, IfStopped, IsFullAt, UnlessStopped, halted}
 use Rattle.comm_rank.specs.Fold.{Applies}
 use Rattle.comm_rank.specs.Puts.{NoneOrFull}
-use Rattle.comm_rank.specs.Rank.{Rank, IsSameRank, handed}
-use Rattle.comm_rank.specs.Settled.{AreRanks, FailedAt, IsRankOf, LastTurn, LogsGrow}
-use Rattle.comm_rank.specs.Turns.{CutOff, Gained, LookedAt, Turned, came_in}
+use Rattle.comm_rank.specs.Rank.{Rank, IsSameRank}
+use Rattle.comm_rank.specs.Settled.{AreRanks, FailedAt, HaltedAt, IsRankOf, LastTurn, LogsGrow}
+use Rattle.comm_rank.specs.Turns.{CutOff, FullAtFirst, Gained, LookedAt, Turned}
 use Rattle.comm_rank.proofs.Advancing.{advanced_none, cut_at_once, same_item, same_rank_none}
 use Rattle.comm_rank.proofs.Moving.{TurnAt, item_set, others_go_on, others_stand}
 use Rattle.comm_rank.proofs.Stops.{if_stopped}
@@ -99,12 +99,12 @@ module _ {C : Type 0} (apply : Applies C) (start : C → C) (comms : List (Rank 
       IfErr r (λ fault. IfStopped fault (SameStops (told_by old) (told_by new))) →
       IfErr r (λ fault. UnlessStopped fault (CutOff apply me now (log_of old.world h) (log_of new.world h))) →
       IfErr r (λ fault. UnlessStopped fault ((told_by new).raised h ≡ true)) →
-      IfErr r (λ fault. IfCountFull fault (λ _. me.most < me.sent_count + length (handed apply me (came_in me.here (log_of old.world h) (log_of new.world h))))) →
+      IfErr r (λ fault. IfCountFull fault (λ _. FullAtFirst apply me now (log_of old.world h) (log_of new.world h))) →
       IfErr r (FailedAt apply start comms (set comms rank now) old new)
 
   failed_here : {T : Type 0} (r : Result T CommFault) → FailsAt r rank
-  failed_here (Ok x) same others stopped full is stands stops cut raised many = tt
-  failed_here (Err fault) same others stopped full is stands stops cut raised many = record {
+  failed_here (Ok x) same others stopped full is stands stops cut raised at_first = tt
+  failed_here (Err fault) same others stopped full is stands stops cut raised at_first = record {
     rank = rank;
     me = now;
     failed = item_set comms rank now within;
@@ -117,7 +117,7 @@ module _ {C : Type 0} (apply : Applies C) (start : C → C) (comms : List (Rank 
       same_rank = same_rank_none me;
       advanced = advanced_none apply me (log_of old.world rank);
       cut_off = cut_off_for apply me now _ _ mine_there.agrees.nothing_waits fault is stands cut;
-      one_too_many = many;
+      full_at_first = at_first;
     });
     raised = raised;
     stop_stands = if_stopped fault (λ stood. stood rank) stops;
@@ -128,6 +128,26 @@ module _ {C : Type 0} (apply : Applies C) (start : C → C) (comms : List (Rank 
 
   pub failed_at : {T : Type 0} (r : Result T CommFault) → FailsAt r me.here
   failed_at r = subst (FailsAt r) (sym mine_there.here) (failed_here r)
+
+  halted_there : SamePost me.here (told_by old) (told_by new) → now ≡ halted me → log_of new.world me.here ≡ log_of old.world me.here → HaltedAt comms (set comms rank now) old new
+  halted_there same is stands = record {
+    rank = rank;
+    me = me;
+    was = there;
+    comms = ap (λ (r : Rank C). set comms rank r) is;
+    logs = λ other. elim (cases_eq other me.here) [
+      | inl here ↦ let P : ℕ → Type 0 = λ h. log_of new.world h ≡ log_of old.world h in subst P (sym here) stands
+      | inr ne ↦ same.other_logs other ne
+    ];
+  }
+
+  -- a turn that met the stop did nothing
+  pub halted_at : {T : Type 0} (r : Result T CommFault) → SamePost me.here (told_by old) (told_by new) → IfErr r (λ fault. IfStopped fault (now ≡ halted me)) →
+      IfErr r (λ fault. IfStopped fault (log_of new.world me.here ≡ log_of old.world me.here)) → IfErr r (λ fault. IfStopped fault (HaltedAt comms (set comms rank now) old new))
+  halted_at (Ok value) same is stands = tt
+  halted_at (Err Stopped) same is stands = halted_there same is stands
+  halted_at (Err (CountFull at)) same is stands = tt
+  halted_at (Err NoMemory) same is stands = tt
 
 -- ---- what is known of the rank afterwards
 

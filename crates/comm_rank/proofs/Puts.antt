@@ -8,7 +8,6 @@ use Rattle.msg_codec.specs.declared.letter.Letter.{Letter}
 use Rattle.ygm_route.specs.declared.scheme.Scheme.{Scheme}
 use Rattle.ygm_route.specs.declared.scheme.Scheme.TheVariants.{Direct}
 use Rattle.ygm_route.specs.Hop.{hop}
-use Rattle.ygm_route.specs.Layout.{Shape}
 use Rattle.ygm_route.proofs.Hops.{hop-direct}
 use Rattle.world_core.specs.declared.entry.Entry.{Entry}
 use Rattle.world_core.specs.declared.entry.Entry.TheVariants.{Put}
@@ -93,15 +92,15 @@ may_put_one here to n before after told batch may within all one loses =
 pub post_stands : (here : ℕ) (old new : Told) → SamePost here old new → SameStops old new → SameMisses old new → new.halts ≡ old.halts → PostStands here old new
 post_stands here old new same stops misses halts = record { same = same; stops = stops; misses = misses; halts = halts }
 
-some_is : (a b c d : ℕ) (x y : List Letter) → (let e : Entry = Put a x in e) ≡ Put b y → (b ≡ a) × (y ≡ x)
-some_is a b c d x y h = (cc, cc)
+same_put : (a b : ℕ) (x y : List Letter) → (let e : Entry = Put a x in e) ≡ Put b y → (b ≡ a) × (y ≡ x)
+same_put a b x y h = (cc, cc)
 
 pub honest_put : (here to : ℕ) (batch : List Letter) (old new : Told) → SamePost here old new → new.log here ≡ old.log here ++ Put to batch ∷ [] →
     first_broken (local_at old here) (Puts to batch) ≡ None → IsHonest (local_at old here) → IsHonest (local_at new here)
 honest_put here to batch old new same log ok honest =
     let more : IsHonest (record (local_at old here) { log = old.log here ++ Put to batch ∷ [] }) =
     honest_more (local_at old here) (Put to batch) honest (λ t ls h.
-    let both = some_is to t 0 0 batch ls h in
+    let both = same_put to t batch ls h in
     let P : ℕ → List Letter → Type 0 = λ t ls. first_broken (local_at old here) (Puts t ls) ≡ None in
     subst (λ t. P t ls) (sym both.0) (subst (λ ls. P to ls) (sym both.1) ok)) in
     let now : local_at new here ≡ record (local_at old here) { log = old.log here ++ Put to batch ∷ [] } = (let a = same.layout in let b = same.scheme in cc) in
@@ -191,18 +190,6 @@ same_post here t = record {
   misses = λ rank. refl;
   halts = refl;
 }
-
-pub may_put_on : (here : ℕ) (a b : List (List Letter)) (t u : Told) (placed : List Entry) → MayPut here a t → Moved here a b t u placed → MayPut here b u
-may_put_on here a b t u placed may m =
-    let ranks : u.layout.ranks ≡ t.layout.ranks = ap (λ (l : Shape). l.ranks) m.post.same.layout in
-    record {
-      all = m.all ∙ may.all ∙ sym ranks;
-      within = omega (arith, may.within, ranks);
-      serves = m.post.same.serves here ∙ may.serves;
-      direct = m.post.same.scheme ∙ may.direct;
-      own_alone = λ f d other. m.none_more f d (may.own_alone f d other);
-      few = omega (arith, m.count_stands, may.few);
-    }
 
 pub count_of_none : (b : Bool) → b ≡ false → put_count b ≡ 0
 count_of_none true h = absurd cc

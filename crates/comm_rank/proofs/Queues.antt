@@ -1,6 +1,6 @@
 -- The lists of letters of queues, of which one changes.
 use Rattle.std.proofs.Common.{◌≡◌, ℕ, ◌<◌, Option, Some, None, Result, Ok, Err, List, [], ◌∷◌, ◌++◌, length, take, drop, map, get_or, set, sym, ap, ◌∙◌, subst, arith, OnSome, OnOk, OnErr}
-use Rattle.std.specs.Option.{IfSome, IsNone, MatchOption}
+use Rattle.std.specs.Option.{IfSome, MatchOption}
 use Rattle.std.specs.List.{AllByRecursion}
 use Rattle.std.proofs.lemmas.List.{map-set, set-get_or, get_or-map, get_or-set_same, length-map}
 use Rattle.msg_codec.specs.declared.letter.Letter.{Letter}
@@ -67,10 +67,6 @@ out_loses n lists to None held within first one = tt
 out_loses n lists to (Some b) held within first one =
     loses n lists to b (drop 1 (held_for lists to)) held within (first_and_rest _ b first one)
     (all_first_of (IsHeldFor n to) (held_for lists to) b first (held.each to within)) (all_rest (IsHeldFor n to) _ (held.each to within))
-
-pub out_none : (was : List Letter) (r : Option (List Letter)) → MatchOption r (was ≡ []) (λ b. take 1 was ≡ b) → IsNone r → was ≡ []
-out_none was None first none = first
-out_none was (Some b) first none = absurd cc
 
 pub if_some : {X : Type 0} (r : Option X) (P Q : X → Type 0) → ((x : X) → P x → Q x) → IfSome r P → IfSome r Q
 if_some None P Q f h = tt

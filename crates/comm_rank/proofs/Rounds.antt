@@ -6,6 +6,7 @@ use Rattle.world_core.specs.Log.{batches_put, batches_taken}
 use Rattle.world_core.specs.Pairs.{pair_taken}
 use Rattle.world_core.specs.Plain.{Plain}
 use Rattle.world_core.specs.World.{link, log_of}
+use Rattle.world_core.proofs.Lists.{or_false_first, or_false_second}
 use Rattle.comm_rank.specs.Rank.{Rank}
 use Rattle.comm_rank.specs.Settled.{AllTaken, IsLoaded, IsNear, IsNearer, NeverLess, RoundMoves, SameLogs, TurnMoves, Untouched, sent_length, taken_length}
 
@@ -47,14 +48,6 @@ round_begins comms links = record {
   logs = λ e rank. refl;
   found_none = λ e from to within below. absurd (omega (arith, below));
 }
-
-or_first : (a b : Bool) → (a || b) ≡ false → a ≡ false
-or_first true b h = h
-or_first false b h = refl
-
-or_second : (a b : Bool) → (a || b) ≡ false → b ≡ false
-or_second true b h = absurd cc
-or_second false b h = h
 
 pub or_then : (a b r : Bool) → a ≡ true → r ≡ true → (a || b) ≡ r
 or_then true b r h e = sym e
@@ -108,14 +101,14 @@ module _ {C : Type 0} (rank : ℕ) (a b c : List (Rank C)) (x y z : Plain) (move
   ]
 
   logs_now : (moved || more) ≡ false → SameLogs x z
-  logs_now e r = turn.logs (or_second moved more e) r ∙ round.logs (or_first moved more e) r
+  logs_now e r = turn.logs (or_false_second moved more e) r ∙ round.logs (or_false_first moved more e) r
 
   found_now : (moved || more) ≡ false → (from to : ℕ) → from < z.world.layout.ranks → to < rank + 1 → link z.world from to ≡ []
   found_now e from to within below =
-      let stood = same_link y z (turn.logs (or_second moved more e)) from to in
+      let stood = same_link y z (turn.logs (or_false_second moved more e)) from to in
       elim (cases_eq to rank) [
-        | inl f ↦ let P : ℕ → Type 0 = λ r. link y.world from r ≡ [] in stood ∙ subst P (sym f) (turn.found_none (or_second moved more e) from within)
-        | inr other ↦ stood ∙ round.found_none (or_first moved more e) from to (omega (arith, within, ranks)) (omega (arith, below, other))
+        | inl f ↦ let P : ℕ → Type 0 = λ r. link y.world from r ≡ [] in stood ∙ subst P (sym f) (turn.found_none (or_false_second moved more e) from within)
+        | inr other ↦ stood ∙ round.found_none (or_false_first moved more e) from to (omega (arith, within, ranks)) (omega (arith, below, other))
       ]
 
   pub turn_more : rank < z.world.layout.ranks → RoundMoves (rank + 1) a c x z (moved || more)

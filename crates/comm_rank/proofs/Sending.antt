@@ -1,6 +1,7 @@
 -- A rank agrees with its log from the start, and when it has sent a letter.
 use Rattle.std.proofs.Common.{◌≡◌, ◌≢◌, ℕ, zero, suc, ◌+◌, true, false, ◌&&◌, nat_eq, eq-eqb, eqb-true, List, [], ◌∷◌, ◌++◌, length, replicate, refl, sym, ap, ◌∙◌, subst, append-nil, append_assoc, arith, inl, inr}
 use Rattle.std.specs.Bool.{IsTrue}
+use Rattle.std.proofs.lemmas.Bool.{false_from_ne_true}
 use Rattle.msg_codec.specs.declared.letter.Letter.{Letter}
 use Rattle.ygm_route.specs.declared.scheme.Scheme.{Scheme}
 use Rattle.ygm_route.specs.declared.scheme.Scheme.TheVariants.{Direct}
@@ -11,7 +12,6 @@ use Rattle.world_core.specs.Log.{letters_of}
 use Rattle.world_core.specs.Modest.{IsModest}
 use Rattle.world_core.specs.Pairs.{is_data, is_of_pair, of_pair, of_sender, pair_put}
 use Rattle.world_core.proofs.Lists.{and_first, and_second}
-use Rattle.world_core.proofs.Only.{false_test}
 use Rattle.comm_rank.specs.Agrees.{Agrees, IsSublist}
 use Rattle.comm_rank.specs.Fold.{Applies}
 use Rattle.comm_rank.specs.Held.{Gains}
@@ -25,7 +25,7 @@ sublist_longer (x ∷ part) (y ∷ whole) more (inl h) = inl (h.0, sublist_longe
 sublist_longer (x ∷ part) (y ∷ whole) more (inr h) = inr (sublist_longer (x ∷ part) whole more h)
 
 not_of_pair : (from to here : ℕ) (l : Letter) → l.from ≡ here → from ≢ here → is_of_pair from to l ≡ false
-not_of_pair from to here l mine other = false_test (is_of_pair from to l) (λ yes.
+not_of_pair from to here l mine other = false_from_ne_true (is_of_pair from to l) (λ yes.
     other (sym (eqb-true l.from from (and_second (is_data l) (nat_eq l.from from) (and_first (is_data l && nat_eq l.from from) (nat_eq l.to to) yes))) ∙ mine))
 
 module _ {C : Type 0} (apply : Applies C) (start : C → C) (me : Rank C) (log : List Entry) (agrees : Agrees apply start me log) (held : List (List Letter)) (count : ℕ) where
@@ -57,7 +57,7 @@ module _ {C : Type 0} (apply : Applies C) (start : C → C) (me : Rank C) (log :
 -- what is held for a rank that the letter isn't for stands
 pub others_stand : (from to : ℕ) (before after : List (List Letter)) (l : Letter) → to ≢ l.to → Gains before after (l ∷ []) → of_pair from to (letters_of after) ≡ of_pair from to (letters_of before)
 others_stand from to before after l other gains =
-    let no : is_of_pair from to l ≡ false = false_test (is_of_pair from to l) (λ yes. other (sym (eqb-true l.to to (and_second (is_data l && nat_eq l.from from) (nat_eq l.to to) yes)))) in
+    let no : is_of_pair from to l ≡ false = false_from_ne_true (is_of_pair from to l) (λ yes. other (sym (eqb-true l.to to (and_second (is_data l && nat_eq l.from from) (nat_eq l.to to) yes)))) in
     let none : of_pair from to (l ∷ []) ≡ [] = rw no refl in
     gains.pairs from to ∙ ap (λ xs. of_pair from to (letters_of before) ++ xs) none ∙ append-nil _
 

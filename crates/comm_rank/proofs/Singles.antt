@@ -24,11 +24,6 @@ first-joined [] bs h = absurd (omega (arith, h.0))
 first-joined (x ∷ []) bs h = refl
 first-joined (x ∷ y ∷ b) bs h = absurd (omega (arith, h.0))
 
-pub only_one : {X : Type 0} (b : List X) → length b ≡ 1 → (x : X) × (b ≡ x ∷ [])
-only_one [] h = absurd (omega arith)
-only_one (x ∷ []) h = (x, refl)
-only_one (x ∷ y ∷ b) h = absurd (omega arith)
-
 pub first_and_rest : {X : Type 0} (xs b : List X) → take 1 xs ≡ b → length b ≡ 1 → xs ≡ b ++ drop 1 xs
 first_and_rest [] b h one = absurd (let none = ap length h in omega arith)
 first_and_rest (x ∷ xs) b h one = ap (λ ys. ys ++ xs) h

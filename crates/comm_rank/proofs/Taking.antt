@@ -3,7 +3,6 @@ use Rattle.std.proofs.Common.{◌≡◌, ◌≢◌, ℕ, ◌+◌, ◌<◌, ◌�
 use Rattle.std.specs.Bool.{IsTrue}
 use Rattle.std.specs.List.{AllByRecursion}
 use Rattle.std.proofs.lemmas.Bool.{cases_eq}
-use Rattle.std.proofs.Math.Seq.{drop-append_seam}
 use Rattle.std.proofs.lemmas.List.Elements.{filter-append}
 use Rattle.msg_codec.specs.declared.letter.Letter.{Letter}
 use Rattle.ygm_route.specs.declared.scheme.Scheme.{Scheme}
@@ -24,8 +23,8 @@ use Rattle.comm_rank.specs.Agrees.{Agrees, IsSublist}
 use Rattle.comm_rank.specs.Fold.{Applies, fold_from, handed_from}
 use Rattle.comm_rank.specs.Held.{Gains}
 use Rattle.comm_rank.specs.Rank.{Rank, IsSameRank, handed, held_letters, local_of, ran_at, sent_to}
-use Rattle.comm_rank.specs.Running.{CutFrom, HasRunAll, IsFor, IsStuck, NotLookedAt, RanSome, TookFrom}
-use Rattle.comm_rank.specs.Turns.{Advanced, LookedAt, came_in}
+use Rattle.comm_rank.specs.Running.{CutFrom, FullAmong, HasRunAll, IsFor, IsStuck, NotLookedAt, RanSome, TookFrom}
+use Rattle.comm_rank.specs.Turns.{Advanced, FullAtFirst, IsFullBehind, LookedAt}
 use Rattle.comm_rank.proofs.Arriving.{arrived-took, batch_for, for_all, forward_same, none_of_others, own-took, own_all, ran_all, ran_is, sublist_more}
 use Rattle.comm_rank.proofs.Folds.{fold-append, handed-append, rest_for}
 
@@ -50,6 +49,18 @@ stuck_waiting {C} apply was old new waiting batch e f h =
     let s = h.stuck in
     let there : StuckIn apply was new waiting = record { run = h.run; given = h.given; waits = h.waits; stuck = record { begun = s.begun; held = s.held; lawful = s.lawful; run_count = s.run_count; sent_count = s.sent_count } } in
     subst (λ (me : Rank C). StuckIn apply me new batch) e (subst (StuckIn apply was new) f there)
+
+-- the first of the letters of a batch ran, and a full count came at the one behind
+pub record FullIn {C : Type 0} (apply : Applies C) (old new : Rank C) (batch : List Letter) : Type 0 where
+  pub run : List Letter
+  pub waits : batch ≡ run ++ new.waiting
+  pub behind : IsFullBehind apply old new run
+
+pub full_waiting : {C : Type 0} (apply : Applies C) (was old new : Rank C) (waiting batch : List Letter) → was ≡ old → waiting ≡ batch →
+    FullAmong apply (record was { waiting = waiting }) new → FullIn apply old new batch
+full_waiting {C} apply was old new waiting batch e f h =
+    let there : FullIn apply was new waiting = record { run = h.run; waits = h.waits; behind = record { next = h.behind.next; waits = h.behind.waits; too_many = h.behind.too_many } } in
+    subst (λ (me : Rank C). FullIn apply me new batch) e (subst (FullIn apply was new) f there)
 
 -- ---- at a rank's place
 
@@ -92,9 +103,6 @@ module _ {C : Type 0} (apply : Applies C) (old new : Rank C) (log after : List E
   pub arrived_now : arrived old.here after ≡ arrived old.here log ++ batch
   arrived_now = ap (arrived old.here) gained ∙ arrived-took old.here log from batch ∙ ap (λ xs. arrived old.here log ++ xs) (for_all old.here batch all)
 
-  pub came_batch : came_in old.here log after ≡ batch
-  came_batch = ap (drop (length (arrived old.here log))) arrived_now ∙ drop-append_seam (arrived old.here log) batch
-
   pub arrived_there : arrived new.here after ≡ arrived old.here log ++ batch
   arrived_there = ap (λ h. arrived h after) same.here ∙ arrived_now
 
@@ -133,6 +141,15 @@ module _ {C : Type 0} (apply : Applies C) (old new : Rank C) (log after : List E
     one = omega arith;
   }
 
+  ran_some : old.waiting ≡ [] → (run : List Letter) → batch ≡ run ++ new.waiting → ran_at new after ≡ ran_at old log ++ run
+  ran_some before run waits =
+      ran_is new after (ran_at old log ++ run) new.waiting
+      (arrived_there ∙ ap (λ xs. xs ++ batch) (ran_old before) ∙ ap (λ xs. ran_at old log ++ xs) waits ∙ sym (append_assoc (ran_at old log) run new.waiting))
+      (for_all new.here new.waiting (rest_for new.here old.here batch run new.waiting waits same.here all))
+
+  pub full_from : old.waiting ≡ [] → FullIn apply old new batch → FullAtFirst apply old new log after
+  full_from before full = record { run = full.run; ran = ran_some before full.run full.waits; behind = full.behind }
+
   pub cut_from : old.waiting ≡ [] → StuckIn apply old new batch → CutFrom from apply old new log after
   cut_from before stuck =
       let rest : AllByRecursion (IsFor new.here) new.waiting = rest_for new.here old.here batch stuck.run new.waiting stuck.waits same.here all in
@@ -145,9 +162,7 @@ module _ {C : Type 0} (apply : Applies C) (old new : Rank C) (log after : List E
           given = stuck.given;
           gained = record { log = gained ∙ sym (append-nil _); takes = (tt, tt); in_order = λ i j d less within. absurd (omega (arith, less, within)); puts = tt };
           arrived = one_taken ∙ stuck.waits ∙ ap (λ xs. stuck.run ++ xs) (sym rest_there);
-          ran = ran_is new after (ran_at old log ++ stuck.run) new.waiting
-              (arrived_there ∙ ap (λ xs. xs ++ batch) (ran_old before) ∙ ap (λ xs. ran_at old log ++ xs) stuck.waits ∙ sym (append_assoc (ran_at old log) stuck.run new.waiting))
-              (for_all new.here new.waiting rest);
+          ran = ran_some before stuck.run stuck.waits;
           begun = stuck.stuck.begun;
           sent = sent_more (handed apply old stuck.run ++ stuck.given) stuck.stuck.held;
           run_count = stuck.stuck.run_count;
@@ -257,12 +272,6 @@ pub same_from : {C : Type 0} (was old new : Rank C) (waiting : List Letter) → 
 same_from {C} was old new waiting e same =
     let there : IsSameRank was new = record { layout = same.layout; scheme = same.scheme; here = same.here; most = same.most } in
     subst (λ (me : Rank C). IsSameRank me new) e there
-
--- the count of what was given, of the batch and of what came
-pub handed_came : {C : Type 0} (apply : Applies C) (was old : Rank C) (waiting came : List Letter) → was ≡ old → waiting ≡ came →
-    was.sent_count + length (handed apply (record was { waiting = waiting }) waiting) ≡ old.sent_count + length (handed apply old came)
-handed_came {C} apply was old waiting came e f =
-    ap (λ (me : Rank C). me.sent_count + length (handed apply me waiting)) e ∙ ap (λ xs. old.sent_count + length (handed apply old xs)) f
 
 -- honesty, as the same rank sees it
 pub honest_on : {C : Type 0} (me old : Rank C) (log after : ℕ → List Entry) → IsSameRank old me → (IsHonest (local_of me (log me.here)) → IsHonest (local_of me (after me.here))) →

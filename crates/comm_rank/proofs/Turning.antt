@@ -1,5 +1,5 @@
 -- Takes and then puts: a turn.
-use Rattle.std.proofs.Common.{◌≡◌, ℕ, List, [], ◌∷◌, ◌++◌, refl, sym, ap, ◌∙◌, subst, inl, inr, length, arith, append-nil}
+use Rattle.std.proofs.Common.{◌≡◌, ℕ, Option, Some, None, List, [], ◌∷◌, ◌++◌, refl, sym, ap, ◌∙◌, subst, inl, inr, length, arith, append-nil}
 use Rattle.std.specs.Bool.{IsTrue}
 use Rattle.std.specs.List.{AllByRecursion}
 use Rattle.std.proofs.lemmas.List.Elements.{filter_map-append}
@@ -8,12 +8,14 @@ use Rattle.world_core.specs.declared.entry.Entry.{Entry}
 use Rattle.world_core.specs.declared.entry.Entry.TheVariants.{Put, Took}
 use Rattle.world_core.specs.Log.{batches_taken, letters_taken, took_from}
 use Rattle.world_core.specs.Pairs.{for_rank, of_pair}
-use Rattle.world_core.specs.Post.{Rose, Told, is_full_in}
+use Rattle.world_core.specs.Post.{Told, is_full_in}
+use Rattle.world_core.specs.Rising.{Rose}
+use Rattle.comm_rank.specs.Fault.{halted}
 use Rattle.comm_rank.specs.Fold.{Applies}
 use Rattle.comm_rank.specs.Puts.{NoneOrFull, PostStands, PutOut}
 use Rattle.comm_rank.specs.Rank.{Rank, handed, sent_to}
 use Rattle.comm_rank.specs.Running.{PostTook, TookAll}
-use Rattle.comm_rank.specs.Turns.{CutOff, IsPut, LookedAt}
+use Rattle.comm_rank.specs.Turns.{CutOff, FirstFull, FullAtFirst, IsPut, LookedAt}
 
 none_taken : (from : ℕ) (placed : List Entry) → AllByRecursion IsPut placed → batches_taken from placed ≡ []
 none_taken from [] h = refl
@@ -70,3 +72,24 @@ module _ (here there : ℕ) (a b c : Told) (same : there ≡ here) (first : Post
       full = λ served. subst (λ h. IsTrue (is_full_in c h to)) same (full.full (subst IsTrue (sym (first.same.serves to)) served));
     })
   ]
+
+  pub full_then : (ranks before : ℕ) → before ≡ ranks → (held : List (List Letter)) (full : Option ℕ) → FirstFull before held b c full → FirstFull ranks held a c full
+  full_then ranks before e held None none = λ rank. none rank ∙ first.fulls rank
+  full_then ranks before e held (Some to) found = (
+    omega (arith, found.0, e),
+    subst (λ n. Rose n (c.fulls to)) (first.fulls to) found.1,
+    found.2,
+    λ lower below. found.3 lower below ∙ first.fulls lower,
+  )
+
+-- ---- a turn that failed: the rank is stopped, and its log stands as the stop is raised
+
+pub log_at : (here there : ℕ) (log after : ℕ → List Entry) → here ≡ there → after here ≡ log here → after there ≡ log there
+log_at here there log after e = subst (λ h. after h ≡ log h) e
+
+pub full_stopped : {C : Type 0} (apply : Applies C) (old was mid : Rank C) (before looked after now : List Entry) → was ≡ mid → looked ≡ before → now ≡ after →
+    FullAtFirst apply old mid looked after → FullAtFirst apply old (halted was) before now
+full_stopped {C} apply old was mid before looked after now e first last full =
+    let at_logs : FullAtFirst apply old mid before now = subst (FullAtFirst apply old mid before) (sym last) (subst (λ xs. FullAtFirst apply old mid xs after) first full) in
+    let there : FullAtFirst apply old was before now = subst (λ (me : Rank C). FullAtFirst apply old me before now) (sym e) at_logs in
+    record { run = there.run; ran = there.ran; behind = record { next = there.behind.next; waits = there.behind.waits; too_many = there.behind.too_many } }

@@ -6,7 +6,8 @@ use Rattle.ygm_route.specs.declared.scheme.Scheme.TheVariants.{Direct}
 use Rattle.world_core.specs.declared.entry.Entry.{Entry}
 use Rattle.world_core.specs.Log.{letters_of}
 use Rattle.world_core.specs.Pairs.{of_pair, of_sender, own, sent}
-use Rattle.world_core.specs.Post.{FullsRise, Rose, SameFulls, SameMisses, SamePost, SameStops, Told, is_full_in, local_at}
+use Rattle.world_core.specs.Post.{FullsRise, SameFulls, SameMisses, SamePost, SameStops, Told, is_full_in, local_at}
+use Rattle.world_core.specs.Rising.{Rose}
 use Rattle.world_core.specs.Rules.{IsHonest}
 use Rattle.comm_rank.specs.Held.{held_for}
 use Rattle.comm_rank.specs.Rank.{Rank, ran_at, sent_to}

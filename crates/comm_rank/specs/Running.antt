@@ -8,7 +8,7 @@ use Rattle.world_core.specs.Pairs.{is_data, for_rank}
 use Rattle.comm_rank.specs.Fold.{Applies}
 use Rattle.comm_rank.specs.Held.{Gains}
 use Rattle.comm_rank.specs.Rank.{Rank, folded, handed}
-use Rattle.comm_rank.specs.Turns.{Advanced, CutOff, HasBegun, IsTake, other_end}
+use Rattle.comm_rank.specs.Turns.{Advanced, CutOff, HasBegun, IsFullBehind, IsTake, other_end}
 use Rattle.world_core.specs.Post.{SameFulls, SamePost, SameStops, Told, link_in}
 
 -- a data letter for this rank
@@ -49,6 +49,12 @@ pub record RanSome {C : Type 0} (apply : Applies C) (old new : Rank C) : Type 0 
   pub given : List Letter
   pub waits : old.waiting ≡ run ++ new.waiting
   pub stuck : IsStuck apply old new run given
+
+-- the first of the letters that waited ran, and a full count came at the one behind
+pub record FullAmong {C : Type 0} (apply : Applies C) (old new : Rank C) : Type 0 where
+  pub run : List Letter
+  pub waits : old.waiting ≡ run ++ new.waiting
+  pub behind : IsFullBehind apply old new run
 
 -- The log gained takes, at most one from each rank and in the order of ranks.
 pub record GainedTakes (before after taken : List Entry) : Type 0 where

@@ -1,5 +1,5 @@
 -- All ranks of a world over plain links, and what the weak barrier does.
-use Rattle.std.specs.Prelude.{◌≡◌, ◌≢◌, ◌⊎◌, ℕ, ◌+◌, ◌<◌, ◌≤◌, Bool, false, true, Option, None, List, [], ◌++◌, Some, length, slice_get}
+use Rattle.std.specs.Prelude.{◌≡◌, ◌≢◌, ◌⊎◌, ℕ, ◌+◌, ◌<◌, ◌≤◌, Bool, false, true, Option, None, List, [], ◌++◌, Some, length, slice_get, slice_set}
 use Rattle.msg_codec.specs.declared.letter.Letter.{Letter}
 use Rattle.world_core.specs.declared.entry.Entry.{Entry}
 use Rattle.world_core.specs.Log.{letters_of}
@@ -8,10 +8,10 @@ use Rattle.world_core.specs.Plain.{Plain, told_by}
 use Rattle.world_core.specs.Sound.{IsPrefix}
 use Rattle.world_core.specs.World.{link, log_of}
 use Rattle.comm_rank.specs.Agrees.{Agrees}
-use Rattle.comm_rank.specs.Fault.{IfCountFull, IfStopped, IsFullAt, UnlessStopped}
+use Rattle.comm_rank.specs.Fault.{IfCountFull, IfStopped, IsFullAt, UnlessStopped, halted}
 use Rattle.comm_rank.specs.Fold.{Applies}
-use Rattle.comm_rank.specs.Rank.{Rank, IsSameRank, handed, held_letters, sent_to, ran_from}
-use Rattle.comm_rank.specs.Turns.{Advanced, CutOff, came_in}
+use Rattle.comm_rank.specs.Rank.{Rank, IsSameRank, held_letters, sent_to, ran_from}
+use Rattle.comm_rank.specs.Turns.{Advanced, CutOff, FullAtFirst}
 use Rattle.comm_rank.specs.declared.fault.CommFault.{CommFault}
 
 -- a rank of the links' world, which may go on: its number, and that a link carries all that it may send
@@ -53,6 +53,9 @@ HasRun {C} before after old new caller = (to : ℕ) (b a : Rank C) → slice_get
 abbrev pub LogsGrow : Plain → Plain → Type 0
 LogsGrow old new = (rank : ℕ) → IsPrefix (log_of old.world rank) (log_of new.world rank)
 
+abbrev pub SameLogs : Plain → Plain → Type 0
+SameLogs old new = (rank : ℕ) → log_of new.world rank ≡ log_of old.world rank
+
 -- No letter is lost: what a rank has sent to another ran there, waits there, is in the link or is held still, in this
 -- order.
 abbrev pub NoneLost : {C : Type 0} → List (Rank C) → Plain → Type 0
@@ -61,7 +64,7 @@ NoneLost {C} comms links = (from to : ℕ) (s d : Rank C) → slice_get comms fr
     ≡ ran_from d (log_of links.world to) from ++ of_pair from to d.waiting ++ of_pair from to (letters_of (link links.world from to)) ++ of_pair from to (held_letters s)
 
 -- A rank's last turn was cut off: how the rank and its log were as that turn began, and what ran before. A full count
--- came where all that came in would make it send more than it may.
+-- came at the first letter that is too many.
 pub record LastTurn {C : Type 0} (apply : Applies C) (old new : Rank C) (before after : List Entry) (fault : CommFault) : Type 0 where
   pub began : Rank C
   pub log : List Entry
@@ -69,7 +72,7 @@ pub record LastTurn {C : Type 0} (apply : Applies C) (old new : Rank C) (before 
   pub same_rank : IsSameRank old began
   pub advanced : Advanced apply old began before log run
   pub cut_off : CutOff apply began new log after
-  pub one_too_many : IfCountFull fault (λ _. began.most < began.sent_count + length (handed apply began (came_in began.here log after)))
+  pub full_at_first : IfCountFull fault (λ _. FullAtFirst apply began new log after)
 
 -- A turn of one rank failed, which is stopped and has raised the stop, unless it met it. At each of the others letters
 -- ran: they may go on, and whether they have raised the stop is as before.
@@ -85,6 +88,15 @@ pub record FailedAt {C : Type 0} (apply : Applies C) (start : C → C) (before a
   pub other_stops : (other : ℕ) → other ≢ rank → (told_by new).raised other ≡ (told_by old).raised other
   pub others : (other : ℕ) → other ≢ rank → HasAdvanced apply before after old new other
   pub others_go_on : (other : ℕ) (a : Rank C) → other ≢ rank → slice_get after other ≡ Some a → IsRankOf apply start new other a
+
+-- A turn of one rank met the stop, before any other did anything: that rank is stopped and else as it was, the others
+-- are what they were, and every log stands.
+pub record HaltedAt {C : Type 0} (before after : List (Rank C)) (old new : Plain) : Type 0 where
+  pub rank : ℕ
+  pub me : Rank C
+  pub was : slice_get before rank ≡ Some me
+  pub comms : after ≡ slice_set before rank (halted me)
+  pub logs : SameLogs old new
 
 -- ---- rounds of turns
 
@@ -118,9 +130,6 @@ pub record Untouched {C : Type 0} (before after : List (Rank C)) (old new : Plai
   pub link : link new.world from to ≡ link old.world from to
   pub sent : sent_length after new from to ≡ sent_length before old from to
   pub taken : taken_length new from to ≡ taken_length old from to
-
-abbrev pub SameLogs : Plain → Plain → Type 0
-SameLogs old new = (rank : ℕ) → log_of new.world rank ≡ log_of old.world rank
 
 -- What a turn of a rank does to the links: those to it are looked at, and those from it are loaded. Where it took
 -- and put nothing, those to it were empty.

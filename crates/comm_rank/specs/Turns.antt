@@ -1,12 +1,13 @@
 -- What a turn of a rank does.
-use Rattle.std.specs.Prelude.{◌≡◌, ◌⊎◌, ◌≢◌, ℕ, ◌+◌, ◌-◌, ◌^◌, ◌<◌, IsTrue, List, [], ◌++◌, Option, Some, None, drop, length, min, slice_get, take, ⊤}
+use Rattle.std.specs.Prelude.{◌≡◌, ◌⊎◌, ◌≢◌, ℕ, ◌+◌, ◌-◌, ◌^◌, ◌<◌, IsTrue, List, [], ◌∷◌, ◌++◌, Option, Some, None, length, min, slice_get, take, ⊤}
 use Rattle.std.specs.List.{AllByRecursion, AllPairs}
 use Rattle.msg_codec.specs.declared.letter.Letter.{Letter}
 use Rattle.world_core.specs.declared.entry.Entry.{Entry}
 use Rattle.world_core.specs.declared.entry.Entry.TheVariants.{Put, Took}
 use Rattle.world_core.specs.Log.{batches_taken, letters_taken}
-use Rattle.world_core.specs.Pairs.{arrived, for_rank, of_pair}
-use Rattle.world_core.specs.Post.{Told, Rose, SameFulls, link_in}
+use Rattle.world_core.specs.Pairs.{for_rank, of_pair}
+use Rattle.world_core.specs.Post.{Told, SameFulls, link_in}
+use Rattle.world_core.specs.Rising.{Rose}
 use Rattle.comm_rank.specs.declared.turn.Turn.{Turn}
 use Rattle.comm_rank.specs.Fold.{Applies, given_by}
 use Rattle.comm_rank.specs.Held.{held_for}
@@ -45,10 +46,6 @@ pub record Advanced {C : Type 0} (apply : Applies C) (old new : Rank C) (before 
   pub run_count : new.run_count ≡ old.run_count + length run
   pub sent_count : new.sent_count ≡ old.sent_count + length (handed apply old run)
 
--- the letters for a rank that came meanwhile
-abbrev pub came_in : ℕ → List Entry → List Entry → List Letter
-came_in here before after = drop (length (arrived here before)) (arrived here after)
-
 -- A turn that ended: all letters for the rank in the batches that it took ran.
 pub record Turned {C : Type 0} (apply : Applies C) (old new : Rank C) (before after : List Entry) (turn : Turn) : Type 0 where
   pub taken : List Entry
@@ -82,6 +79,19 @@ pub record CutOff {C : Type 0} (apply : Applies C) (old new : Rank C) (before af
   pub run_count : new.run_count ≡ old.run_count + length run
   pub sent_count : new.sent_count ≡ old.sent_count + length (handed apply old run) + length given
 
+-- Behind these letters, which ran, one more is too many: with what the handler gives by the letter that waits first
+-- the rank would have sent more than it may.
+pub record IsFullBehind {C : Type 0} (apply : Applies C) (old new : Rank C) (run : List Letter) : Type 0 where
+  pub next : Letter
+  pub waits : slice_get new.waiting 0 ≡ Some next
+  pub too_many : old.most < old.sent_count + length (handed apply old (run ++ next ∷ []))
+
+-- A full count came at the first letter that is too many: all before it ran.
+pub record FullAtFirst {C : Type 0} (apply : Applies C) (old new : Rank C) (before after : List Entry) : Type 0 where
+  pub run : List Letter
+  pub ran : ran_at new after ≡ ran_at old before ++ run
+  pub behind : IsFullBehind apply old new run
+
 -- ---- what it found at the post
 
 -- it took a batch from the rank, or found nothing there: where the post serves that rank too, the link was empty
@@ -90,8 +100,8 @@ LookedAt here from old new =
     (length (batches_taken from (new.log here)) ≡ length (batches_taken from (old.log here)) + 1)
     ⊎ (Rose (old.misses from) (new.misses from) × (IsTrue (old.serves from) → link_in old from here ≡ []))
 
--- A full link was found, first to this rank; or none was.
-abbrev pub FirstFull : List (List Letter) → Told → Told → Option ℕ → Type 0
-FirstFull held old new None = SameFulls old new
-FirstFull held old new (Some to) =
-    Rose (old.fulls to) (new.fulls to) × (held_for held to ≢ []) × ((lower : ℕ) → lower < to → new.fulls lower ≡ old.fulls lower)
+-- A full link was found, first to this rank, one of so many; or none was.
+abbrev pub FirstFull : ℕ → List (List Letter) → Told → Told → Option ℕ → Type 0
+FirstFull ranks held old new None = SameFulls old new
+FirstFull ranks held old new (Some to) =
+    (to < ranks) × Rose (old.fulls to) (new.fulls to) × (held_for held to ≢ []) × ((lower : ℕ) → lower < to → new.fulls lower ≡ old.fulls lower)

@@ -1,10 +1,12 @@
 //! The weak barrier.
-ghost use Rattle.std.specs.Prelude.{◌≡◌, ◌<◌, ℕ, true, false, length, IfErr, IfOk, OnOk};
+ghost use Rattle.std.specs.Prelude.{◌≡◌, ◌<◌, ℕ, Err, true, false, length, IfErr, IfOk, OnOk, IsTrue};
 ghost use Rattle.world_core.specs.Modest.{IsWorld};
 ghost use Rattle.world_core.specs.Plain.{is_stopped, told_by};
-ghost use Rattle.world_core.specs.Post.{Rose, SameStops};
-ghost use Rattle.comm_rank.specs.Fault.{GivesIfFull, IfStopped};
-ghost use Rattle.comm_rank.specs.Settled.{AreRanks, AreSameLinks, AreSameRanks, FailedAt, HasAdvanced, HasRun, LogsGrow, NoneLost, RoundMoves, TurnMoves};
+ghost use Rattle.world_core.specs.Post.{SameStops, SomeRaised};
+ghost use Rattle.world_core.specs.Rising.{Rose};
+ghost use Rattle.comm_rank.specs.Fault.{GivesIfFull, IfStopped, UnlessStopped};
+ghost use Rattle.comm_rank.specs.declared.fault.CommFault.TheVariants.{Stopped};
+ghost use Rattle.comm_rank.specs.Settled.{AreRanks, AreSameLinks, AreSameRanks, FailedAt, HaltedAt, HasAdvanced, HasRun, LogsGrow, NoneLost, RoundMoves, TurnMoves};
 
 use crate::{Comm, CommFault, Handler, Turn};
 use world_core::PlainLinks;
@@ -29,10 +31,13 @@ fn turn_of<H: Handler>(
     ensures ranks { OnOk result (AreRanks H.apply H.start comms.new links.new) }
     ensures failed { IfErr result (FailedAt H.apply H.start comms.old comms.new links.old links.new) }
     ensures halts { IfErr result (λ fault. IfStopped fault (Rose links.old.halts links.new.halts)) }
-    ensures stopped_before { IfErr result (λ fault. IfStopped fault (is_stopped links.old ≡ true)) }
+    ensures raised_before { IfErr result (λ fault. IfStopped fault (SomeRaised (told_by links.old))) }
+    ensures sees_the_stop { (other : ℕ) → IsTrue ((told_by links.old).serves other) → (told_by links.old).raised other ≡ true → result ≡ Err Stopped }
+    ensures does_nothing_when_halted { IfErr result (λ fault. IfStopped fault (HaltedAt comms.old comms.new links.old links.new)) }
     ensures gave { IfErr result (GivesIfFull H.apply) }
     ensures stops_stand { OnOk result (SameStops (told_by links.old) (told_by links.new)) }
     ensures halts_stand { OnOk result (links.new.halts ≡ links.old.halts) }
+    ensures halts_stand_unless_stopped { IfErr result (λ fault. UnlessStopped fault (links.new.halts ≡ links.old.halts)) }
     ensures same_ranks { AreSameRanks comms.old comms.new }
     ensures all { length comms.new ≡ length comms.old }
     ensures logs_grow { LogsGrow links.old links.new }
@@ -53,10 +58,13 @@ fn round<H: Handler>(comms: &mut [Comm<H>], links: &mut PlainLinks) -> Result<bo
     ensures ranks { OnOk result (AreRanks H.apply H.start comms.new links.new) }
     ensures failed { IfErr result (FailedAt H.apply H.start comms.old comms.new links.old links.new) }
     ensures halts { IfErr result (λ fault. IfStopped fault (Rose links.old.halts links.new.halts)) }
-    ensures stopped_before { IfErr result (λ fault. IfStopped fault (is_stopped links.old ≡ true)) }
+    ensures raised_before { IfErr result (λ fault. IfStopped fault (SomeRaised (told_by links.old))) }
+    ensures sees_the_stop { (rank : ℕ) → IsTrue ((told_by links.old).serves rank) → (told_by links.old).raised rank ≡ true → result ≡ Err Stopped }
+    ensures does_nothing_when_halted { IfErr result (λ fault. IfStopped fault (HaltedAt comms.old comms.new links.old links.new)) }
     ensures gave { IfErr result (GivesIfFull H.apply) }
     ensures stops_stand { OnOk result (SameStops (told_by links.old) (told_by links.new)) }
     ensures halts_stand { OnOk result (links.new.halts ≡ links.old.halts) }
+    ensures halts_stand_unless_stopped { IfErr result (λ fault. UnlessStopped fault (links.new.halts ≡ links.old.halts)) }
     ensures same_ranks { AreSameRanks comms.old comms.new }
     ensures all { length comms.new ≡ length comms.old }
     ensures logs_grow { LogsGrow links.old links.new }
@@ -76,11 +84,11 @@ fn round<H: Handler>(comms: &mut [Comm<H>], links: &mut PlainLinks) -> Result<bo
 /// It gives each rank one turn more than the caller has sent letters, and fewer where a whole round of turns
 /// found nothing to do.
 ///
-/// It answers `Stopped` where a rank had raised the stop before, `CountFull` where a letter that a handler gave
-/// would be one more than its rank may send, and `NoMemory` where memory is wanting. The rank whose turn failed is
-/// then stopped for good, and has raised the stop unless it met it; the others are not stopped. Whatever the
-/// answer, no letter is lost: each that was sent has run, waits at its destination, is in its link or is held by
-/// its sender, in order.
+/// It answers `Stopped` where a rank had raised the stop before, and then did nothing; `CountFull` where a letter
+/// that a handler gave would be one more than its rank may send; and `NoMemory` where memory is wanting. The rank
+/// whose turn failed is then stopped for good, and has raised the stop unless it met it; the others are not
+/// stopped. Whatever the answer, no letter is lost: each that was sent has run, waits at its destination, is in
+/// its link or is held by its sender, in order.
 pub fn settle<H: Handler>(
     comms: &mut [Comm<H>],
     links: &mut PlainLinks,
@@ -94,9 +102,13 @@ pub fn settle<H: Handler>(
     ensures sound { IsWorld links.new.world }
     ensures none_lost { NoneLost comms.new links.new }
     ensures stops_stand { OnOk result (SameStops (told_by links.old) (told_by links.new)) }
+    ensures halts_stand { OnOk result (links.new.halts ≡ links.old.halts) }
+    ensures halts_stand_unless_stopped { IfErr result (λ fault. UnlessStopped fault (links.new.halts ≡ links.old.halts)) }
     ensures failed { IfErr result (FailedAt H.apply H.start comms.old comms.new links.old links.new) }
     ensures halts { IfErr result (λ fault. IfStopped fault (Rose links.old.halts links.new.halts)) }
     ensures stopped_before { IfErr result (λ fault. IfStopped fault (is_stopped links.old ≡ true)) }
+    ensures sees_the_stop { (rank : ℕ) → IsTrue ((told_by links.old).serves rank) → (told_by links.old).raised rank ≡ true → result ≡ Err Stopped }
+    ensures does_nothing_when_halted { IfErr result (λ fault. IfStopped fault (HaltedAt comms.old comms.new links.old links.new)) }
     ensures gave { IfErr result (GivesIfFull H.apply) }
     ensures same_ranks { AreSameRanks comms.old comms.new }
     ensures all { length comms.new ≡ length comms.old }

@@ -1,10 +1,11 @@
 //! One rank of a world.
-ghost use Rattle.std.specs.Prelude.{◌≡◌, ◌≢◌, ◌<◌, ◌≤◌, ◌+◌, ◌^◌, ◌++◌, ℕ, List, [], ◌∷◌, false, length, IfOk, IfErr, IsErr, OnOk, OnErr};
+ghost use Rattle.std.specs.Prelude.{◌≡◌, ◌≢◌, ◌<◌, ◌≤◌, ◌+◌, ◌^◌, ◌++◌, ℕ, List, [], ◌∷◌, false, length, Err, IfOk, IfErr, OnOk, OnErr};
 ghost use Rattle.msg_codec.specs.Letter.{letter_of};
 ghost use Rattle.world_core.specs.declared.entry.Entry.{Entry};
 ghost use Rattle.ygm_route.specs.declared.scheme.Scheme.TheVariants.{Direct};
 ghost use Rattle.comm_rank.specs.Agrees.{Agrees};
 ghost use Rattle.comm_rank.specs.Fault.{IsFullAt, NeverStopped};
+ghost use Rattle.comm_rank.specs.declared.fault.CommFault.TheVariants.{CountFull};
 ghost use Rattle.comm_rank.specs.Held.{Gains, IsHeldFor, holding};
 ghost use Rattle.comm_rank.specs.Rank.{fresh_rank, having_sent, sent_to};
 
@@ -78,7 +79,7 @@ pub(crate) fn hold(
     ensures not_counted { OnErr result (sent.new.count ≡ sent.old.count) }
     ensures limit { sent.new.limit ≡ sent.old.limit }
     ensures cause { IfErr result (IsFullAt sent.old.count most) }
-    ensures full { most ≤ sent.old.count → IsErr result }
+    ensures full { most ≤ sent.old.count → result ≡ Err (CountFull most) }
     ensures never_stopped { IfErr result NeverStopped }
 {
     if sent.count() < most {
@@ -138,7 +139,7 @@ impl<H: Handler> Comm<H> {
         ensures held { OnOk result (self.new ≡ having_sent self.old (record { to = to; from = self.old.here; tag = tag; body = body })) }
         ensures unchanged { OnErr result (self.new ≡ self.old) }
         ensures cause { IfErr result (IsFullAt self.old.sent_count self.old.most) }
-        ensures full { self.old.most ≤ self.old.sent_count → IsErr result }
+        ensures full { self.old.most ≤ self.old.sent_count → result ≡ Err (CountFull self.old.most) }
         ensures never_stopped { IfErr result NeverStopped }
         ensures agrees { (log : List Entry) → Agrees H.apply H.start self.old log → Agrees H.apply H.start self.new log }
     {

@@ -9,7 +9,8 @@ use thiserror::Error;
 /// Why a letter wasn't sent, or a turn failed.
 #[derive(Clone, Copy, Debug, PartialEq, Eq, Error)]
 pub enum CommFault {
-    /// A rank had raised the stop. The turn did nothing, and its rank is stopped for good.
+    /// `Comm::turn` and `settle` answer it: a rank had raised the stop. The turn did nothing, and its rank is stopped
+    /// for good.
     #[error("a rank has stopped")]
     Stopped,
     /// The rank has sent as many letters as it may. It stays so: each later send is refused too. After a turn or a

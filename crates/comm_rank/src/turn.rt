@@ -3,7 +3,8 @@ ghost use Rattle.std.specs.Prelude.{◌≡◌, ◌≢◌, ◌<◌, ◌≤◌, �
 ghost use Rattle.std.specs.List.{AllByRecursion};
 ghost use Rattle.world_core.specs.declared.entry.Entry.{Entry};
 ghost use Rattle.msg_codec.specs.declared.letter.Letter.{Letter};
-ghost use Rattle.world_core.specs.Post.{Rose, SamePost, SameStops, ServesAll, SomeRaised};
+ghost use Rattle.world_core.specs.Post.{SamePost, SameStops, ServesAll, SomeRaised};
+ghost use Rattle.world_core.specs.Rising.{Rose};
 ghost use Rattle.world_core.specs.Rules.{IsHonest};
 ghost use Rattle.comm_rank.specs.Agrees.{Agrees};
 ghost use Rattle.comm_rank.specs.Fault.{GivesIfFull, IfCountFull, IfStopped, IsFullAt, NeverStopped, UnlessStopped, halted};
@@ -11,9 +12,9 @@ ghost use Rattle.comm_rank.specs.declared.fault.CommFault.TheVariants.{NoMemory,
 ghost use Rattle.comm_rank.specs.Fold.{letter_by};
 ghost use Rattle.comm_rank.specs.Held.{AreApart, Gains, OthersStand, held_for};
 ghost use Rattle.comm_rank.specs.Puts.{MayPut, Moved, NoneOrFull, PostStands, PutOut, PutUntil, PutsOne, put_count};
-ghost use Rattle.comm_rank.specs.Rank.{IsSameRank, handed, local_of};
-ghost use Rattle.comm_rank.specs.Running.{CutFrom, HasRunAll, IsFor, IsStuck, NotLookedAt, PostTook, RanFirst, RanSome, TookAll, TookFrom};
-ghost use Rattle.comm_rank.specs.Turns.{CutOff, FirstFull, LookedAt, Turned, came_in};
+ghost use Rattle.comm_rank.specs.Rank.{IsSameRank, local_of};
+ghost use Rattle.comm_rank.specs.Running.{CutFrom, FullAmong, HasRunAll, IsFor, IsStuck, NotLookedAt, PostTook, RanFirst, RanSome, TookAll, TookFrom};
+ghost use Rattle.comm_rank.specs.Turns.{CutOff, FirstFull, FullAtFirst, IsFullBehind, LookedAt, Turned};
 
 use crate::comm::hold;
 use crate::held::Held;
@@ -131,7 +132,7 @@ fn put_each<P: Post>(
     ensures moved { (placed : List Entry) × Moved here held.old.lists held.new.lists (P.told post.old) (P.told post.new) placed
         × IfOk result (λ what. what.0 ≡ min (length placed) (2 ^ 64 - 1)) }
     ensures none_or_full { OnOk result ((to : ℕ) → to < ranks → NoneOrFull here to held.new.lists (P.told post.old) (P.told post.new)) }
-    ensures full { IfOk result (λ what. FirstFull held.new.lists (P.told post.old) (P.told post.new) what.1) }
+    ensures full { IfOk result (λ what. FirstFull ranks held.new.lists (P.told post.old) (P.told post.new) what.1) }
     ensures fault { IfErr result (λ fault. fault ≡ NoMemory) }
 {
     let mut put: u64 = 0;
@@ -164,7 +165,7 @@ impl<H: Handler> Comm<H> {
         ensures agrees { OnOk result (Agrees H.apply H.start self.new ((P.told post.new).log self.old.here)) }
         ensures takes_from_each { OnOk result ((from : ℕ) → from < self.old.layout.ranks → LookedAt self.old.here from (P.told post.old) (P.told post.new)) }
         ensures puts_to_each { OnOk result ((to : ℕ) → to < self.old.layout.ranks → NoneOrFull self.old.here to self.new.held (P.told post.old) (P.told post.new)) }
-        ensures full { IfOk result (λ turn. FirstFull self.new.held (P.told post.old) (P.told post.new) turn.full) }
+        ensures full { IfOk result (λ turn. FirstFull self.old.layout.ranks self.new.held (P.told post.old) (P.told post.new) turn.full) }
         ensures halts { IfErr result (λ fault. IfStopped fault (Rose (P.told post.old).halts (P.told post.new).halts)) }
         ensures raised_before { IfErr result (λ fault. IfStopped fault (ServesAll (P.told post.old) → SomeRaised (P.told post.old))) }
         ensures sees_the_stop { (rank : ℕ) → IsTrue ((P.told post.old).serves rank) → (P.told post.old).raised rank ≡ true → result ≡ Err Stopped }
@@ -173,12 +174,12 @@ impl<H: Handler> Comm<H> {
         ensures stop_stands_when_halted { IfErr result (λ fault. IfStopped fault (SameStops (P.told post.old) (P.told post.new))) }
         ensures stop_stands { OnOk result (SameStops (P.told post.old) (P.told post.new)) }
         ensures halts_stand { OnOk result ((P.told post.new).halts ≡ (P.told post.old).halts) }
+        ensures halts_stand_unless_stopped { IfErr result (λ fault. UnlessStopped fault ((P.told post.new).halts ≡ (P.told post.old).halts)) }
         ensures cut_off { IfErr result (λ fault. UnlessStopped fault (CutOff H.apply self.old self.new ((P.told post.old).log self.old.here) ((P.told post.new).log self.old.here))) }
         ensures raises_the_stop { IfErr result (λ fault. UnlessStopped fault ((P.told post.new).raised self.old.here ≡ true)) }
         ensures other_stops { (rank : ℕ) → rank ≢ self.old.here → (P.told post.new).raised rank ≡ (P.told post.old).raised rank }
         ensures count_full { IfErr result (IsFullAt self.new.sent_count self.old.most) }
-        ensures one_too_many { IfErr result (λ fault. IfCountFull fault (λ _. self.old.most
-            < self.old.sent_count + length (handed H.apply self.old (came_in self.old.here ((P.told post.old).log self.old.here) ((P.told post.new).log self.old.here))))) }
+        ensures full_at_first { IfErr result (λ fault. IfCountFull fault (λ _. FullAtFirst H.apply self.old self.new ((P.told post.old).log self.old.here) ((P.told post.new).log self.old.here))) }
         ensures gave { IfErr result (GivesIfFull H.apply) }
         ensures stopped { self.new.stopped ≡ is_err result }
         ensures honest { IsHonest (local_of self.old ((P.told post.old).log self.old.here)) → IsHonest (local_of self.old ((P.told post.new).log self.old.here)) }
@@ -207,11 +208,10 @@ impl<H: Handler> Comm<H> {
         ensures agrees { OnOk result (Agrees H.apply H.start self.new ((P.told post.new).log self.old.here)) }
         ensures takes_from_each { OnOk result ((from : ℕ) → from < self.old.layout.ranks → LookedAt self.old.here from (P.told post.old) (P.told post.new)) }
         ensures puts_to_each { OnOk result ((to : ℕ) → to < self.old.layout.ranks → NoneOrFull self.old.here to self.new.held (P.told post.old) (P.told post.new)) }
-        ensures full { IfOk result (λ turn. FirstFull self.new.held (P.told post.old) (P.told post.new) turn.full) }
+        ensures full { IfOk result (λ turn. FirstFull self.old.layout.ranks self.new.held (P.told post.old) (P.told post.new) turn.full) }
         ensures cut_off { OnErr result (CutOff H.apply self.old self.new ((P.told post.old).log self.old.here) ((P.told post.new).log self.old.here)) }
         ensures cause { IfErr result (IsFullAt self.new.sent_count self.old.most) }
-        ensures one_too_many { IfErr result (λ fault. IfCountFull fault (λ _. self.old.most
-            < self.old.sent_count + length (handed H.apply self.old (came_in self.old.here ((P.told post.old).log self.old.here) ((P.told post.new).log self.old.here))))) }
+        ensures full_at_first { IfErr result (λ fault. IfCountFull fault (λ _. FullAtFirst H.apply self.old self.new ((P.told post.old).log self.old.here) ((P.told post.new).log self.old.here))) }
         ensures gave { IfErr result (GivesIfFull H.apply) }
         ensures never_stopped { IfErr result NeverStopped }
         ensures stops { SameStops (P.told post.old) (P.told post.new) }
@@ -237,8 +237,7 @@ impl<H: Handler> Comm<H> {
         ensures takes_from_each { OnOk result ((from : ℕ) → from < self.old.layout.ranks → LookedAt self.old.here from (P.told post.old) (P.told post.new)) }
         ensures cut_off { OnErr result (CutOff H.apply self.old self.new ((P.told post.old).log self.old.here) ((P.told post.new).log self.old.here)) }
         ensures cause { IfErr result (IsFullAt self.new.sent_count self.old.most) }
-        ensures one_too_many { IfErr result (λ fault. IfCountFull fault (λ _. self.old.most
-            < self.old.sent_count + length (handed H.apply self.old (came_in self.old.here ((P.told post.old).log self.old.here) ((P.told post.new).log self.old.here))))) }
+        ensures full_at_first { IfErr result (λ fault. IfCountFull fault (λ _. FullAtFirst H.apply self.old self.new ((P.told post.old).log self.old.here) ((P.told post.new).log self.old.here))) }
         ensures gave { IfErr result (GivesIfFull H.apply) }
         ensures never_stopped { IfErr result NeverStopped }
         ensures post_took { PostTook self.old.here (P.told post.old) (P.told post.new) }
@@ -267,8 +266,7 @@ impl<H: Handler> Comm<H> {
         ensures others { OnOk result ((other : ℕ) → other ≢ from → NotLookedAt self.old.here other (P.told post.old) (P.told post.new)) }
         ensures cut_off { OnErr result (CutFrom from H.apply self.old self.new ((P.told post.old).log self.old.here) ((P.told post.new).log self.old.here)) }
         ensures cause { IfErr result (IsFullAt self.new.sent_count self.old.most) }
-        ensures one_too_many { IfErr result (λ fault. IfCountFull fault (λ _. self.old.most
-            < self.old.sent_count + length (handed H.apply self.old (came_in self.old.here ((P.told post.old).log self.old.here) ((P.told post.new).log self.old.here))))) }
+        ensures full_at_first { IfErr result (λ fault. IfCountFull fault (λ _. FullAtFirst H.apply self.old self.new ((P.told post.old).log self.old.here) ((P.told post.new).log self.old.here))) }
         ensures gave { IfErr result (GivesIfFull H.apply) }
         ensures never_stopped { IfErr result NeverStopped }
         ensures post_took { PostTook self.old.here (P.told post.old) (P.told post.new) }
@@ -292,8 +290,7 @@ impl<H: Handler> Comm<H> {
         ensures nothing_waits { OnOk result (self.new.waiting ≡ []) }
         ensures stuck { OnErr result (RanSome H.apply self.old self.new) }
         ensures cause { IfErr result (IsFullAt self.new.sent_count self.old.most) }
-        ensures one_too_many { IfErr result (λ fault. IfCountFull fault (λ _. self.old.most
-            < self.old.sent_count + length (handed H.apply self.old self.old.waiting))) }
+        ensures full_at_first { IfErr result (λ fault. IfCountFull fault (λ _. FullAmong H.apply self.old self.new)) }
         ensures gave { IfErr result (GivesIfFull H.apply) }
         ensures never_stopped { IfErr result NeverStopped }
         ensures same_rank { IsSameRank self.old self.new }
@@ -315,8 +312,7 @@ impl<H: Handler> Comm<H> {
         ensures stuck { OnErr result ((given : List Letter) × IsStuck H.apply self.old self.new [] given) }
         ensures still_waits { OnErr result (self.new.waiting ≡ self.old.waiting) }
         ensures cause { IfErr result (IsFullAt self.new.sent_count self.old.most) }
-        ensures one_too_many { IfErr result (λ fault. IfCountFull fault (λ _. self.old.most
-            < self.old.sent_count + length (handed H.apply self.old self.old.waiting))) }
+        ensures full_at_first { IfErr result (λ fault. IfCountFull fault (λ _. IsFullBehind H.apply self.old self.new [])) }
         ensures gave { IfErr result (GivesIfFull H.apply) }
         ensures never_stopped { IfErr result NeverStopped }
         ensures same_rank { IsSameRank self.old self.new }
@@ -350,7 +346,7 @@ impl<H: Handler> Comm<H> {
         ensures agrees { Agrees H.apply H.start self.new ((P.told post.new).log self.old.here) }
         ensures honest { IsHonest (local_of self.old ((P.told post.old).log self.old.here)) → IsHonest (local_of self.old ((P.told post.new).log self.old.here)) }
         ensures none_or_full { OnOk result ((to : ℕ) → to < self.old.layout.ranks → NoneOrFull self.old.here to self.new.held (P.told post.old) (P.told post.new)) }
-        ensures full { IfOk result (λ what. FirstFull self.new.held (P.told post.old) (P.told post.new) what.1) }
+        ensures full { IfOk result (λ what. FirstFull self.old.layout.ranks self.new.held (P.told post.old) (P.told post.new) what.1) }
         ensures post_stands { PostStands self.old.here (P.told post.old) (P.told post.new) }
         ensures fault { IfErr result (λ fault. fault ≡ NoMemory) }
     {

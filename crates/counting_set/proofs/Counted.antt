@@ -1,5 +1,5 @@
 -- Where one of each line is added, each line is there once, with the number of lines equal to it.
-use Rattle.std.proofs.Common.{◌≡◌, ◌≢◌, inl, inr, ℕ, suc, zero, ◌^◌, ◌<◌, List, [], ◌∷◌, map, length, Option, Some, All, AllPairs, Contains, sum_by, count_by, slice_index_or, refl, sym, ap, subst, ◌∙◌, arith}
+use Rattle.std.proofs.Common.{◌≡◌, ◌≢◌, inl, inr, ℕ, suc, zero, ◌^◌, ◌<◌, List, [], ◌∷◌, map, length, Option, None, Some, All, AllPairs, Contains, sum_by, count_by, slice_index_or, refl, sym, ap, subst, ◌∙◌, arith}
 use Rattle.std.specs.Prelude.{IfSome, bytes_eq, ⊤}
 use Rattle.std.specs.List.{AllByRecursion}
 use Rattle.std.proofs.lemmas.List.Kept.{AllPairs-cons}
@@ -58,9 +58,10 @@ there-added x c (e ∷ es) lt h =
 abbrev pub one_of : List ℕ → Option (List ℕ × ℕ)
 one_of line = Some (line, 1)
 
-pub distinct-after : (lines : List (List ℕ)) (es : Counts) → Distinct es → Distinct (after es (map one_of lines))
+pub distinct-after : (os : List (Option (List ℕ × ℕ))) (es : Counts) → Distinct es → Distinct (after es os)
 distinct-after [] es h = h
-distinct-after (x ∷ xs) es h = distinct-after xs (added x 1 es) (distinct-added x 1 es h)
+distinct-after (None ∷ os) es h = distinct-after os es h
+distinct-after (Some one ∷ os) es h = distinct-after os (added one.0 one.1 es) (distinct-added one.0 one.1 es h)
 
 pub there-after : (lines : List (List ℕ)) (es : Counts) → AllByRecursion IsThere es → AllByRecursion IsThere (after es (map one_of lines))
 there-after [] es h = h
@@ -120,4 +121,4 @@ pub adds_of_one_are_counted : (here ranks : ℕ) (letters : List Letter) (lines 
 adds_of_one_are_counted here ranks letters lines are few =
     let shard : fold_from counting_apply here ranks [] letters ≡ after [] (map one_of lines) = fold-after here ranks [] letters ∙ ap (after []) are in
     subst (λ es. AreCounted es lines) (sym shard)
-    (counted (after [] (map one_of lines)) lines (distinct-after lines [] tt) (there-after lines [] tt) (λ x. count_in-ones x lines few))
+    (counted (after [] (map one_of lines)) lines (distinct-after (map one_of lines) [] tt) (there-after lines [] tt) (λ x. count_in-ones x lines few))

@@ -2,15 +2,10 @@
 use Rattle.std.proofs.Common.{◌≡◌, inl, inr, ℕ, ◌+◌, Bool, cond, List, [], ◌∷◌, map, Some, None, refl, sym, ap, ◌∙◌}
 use Rattle.std.specs.Prelude.{bytes_eq, unwrap_or}
 use Rattle.std.specs.Map.{lookup, set_value}
+use Rattle.std.proofs.lemmas.Bool.{cases_Bool}
+use Rattle.std.proofs.lemmas.Option.{none-some, same_Some}
 use Rattle.indexmap.specs.IndexMap.{insert_entry}
 use Rattle.counting_set.specs.Counting.{Counts, held, added, count_in}
-use Rattle.counting_set.proofs.Adding.{truth}
-
-some_is : {A : Type 0} (x y : A) → Some x ≡ Some y → x ≡ y
-some_is x y e = cc
-
-none_some : (x : ℕ) → None ≡ Some x → ⊥
-none_some x e = cc
 
 module _ {K : Type 0} (bytes : K → List ℕ) where
   abbrev pub seen : List (K × ℕ) → Counts
@@ -24,9 +19,9 @@ module _ {K : Type 0} (bytes : K → List ℕ) where
       → seen (set_value (is_key item) es new) ≡ added item count (seen es)
   added-set_value item count old new [] found is = absurd cc
   added-set_value item count old new (e ∷ es) found is =
-      elim (truth (is_key item e.0)) [
+      elim (cases_Bool (is_key item e.0)) [
         | inl t ↦
-            let same : e.1 ≡ old = some_is e.1 old (sym (ap (λ c. cond c (Some e.1) (lookup (is_key item) es)) t) ∙ found) in
+            let same : e.1 ≡ old = same_Some e.1 old (sym (ap (λ c. cond c (Some e.1) (lookup (is_key item) es)) t) ∙ found) in
             rw (t, is, same) refl
         | inr t ↦
             let later : lookup (is_key item) es ≡ Some old = sym (ap (λ c. cond c (Some e.1) (lookup (is_key item) es)) t) ∙ found in
@@ -39,8 +34,8 @@ module _ {K : Type 0} (bytes : K → List ℕ) where
   added-insert_entry eq k item count [] same is none = rw is refl
   added-insert_entry eq k item count (e ∷ es) same is none =
       let test : eq k e.0 ≡ is_key item e.0 = same e.0 ∙ ap (λ i. is_key i e.0) is in
-      elim (truth (is_key item e.0)) [
-        | inl t ↦ absurd (none_some e.1 (sym none ∙ ap (λ c. cond c (Some e.1) (lookup (is_key item) es)) t))
+      elim (cases_Bool (is_key item e.0)) [
+        | inl t ↦ absurd (none-some e.1 (sym none ∙ ap (λ c. cond c (Some e.1) (lookup (is_key item) es)) t))
         | inr t ↦
             let later : lookup (is_key item) es ≡ None = sym (ap (λ c. cond c (Some e.1) (lookup (is_key item) es)) t) ∙ none in
             rw (test, t, added-insert_entry eq k item count es same is later) refl
@@ -50,7 +45,7 @@ module _ {K : Type 0} (bytes : K → List ℕ) where
   pub count_in-lookup : (item : List ℕ) (es : List (K × ℕ)) → unwrap_or (lookup (is_key item) es) 0 ≡ count_in (seen es) item
   count_in-lookup item [] = refl
   count_in-lookup item (e ∷ es) =
-      elim (truth (is_key item e.0)) [
+      elim (cases_Bool (is_key item e.0)) [
         | inl t ↦ rw t refl
         | inr t ↦ rw t (count_in-lookup item es)
       ]

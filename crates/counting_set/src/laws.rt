@@ -1,9 +1,10 @@
 //! The laws of a counting set. Each is the contract of a function that does nothing.
-ghost use Rattle.std.specs.Prelude.{◌≡◌, ◌+◌, ◌^◌, ◌<◌, ◌≤◌, ℕ, List, [], Some, All, length, map, sum_by};
+ghost use Rattle.std.specs.Prelude.{◌≡◌, ◌≢◌, ◌+◌, ◌^◌, ◌<◌, ◌≤◌, ℕ, List, [], ◌∷◌, ◌++◌, Some, All, Contains, bytes_eq, length, map, sum_by};
+ghost use Rattle.std.specs.List.{IsDistinct};
 ghost use Rattle.msg_codec.specs.Bytes.{AreBytes};
 ghost use Rattle.msg_codec.specs.declared.letter.Letter.{Letter};
 ghost use Rattle.comm_rank.specs.Fold.{fold_from, handed_from};
-ghost use Rattle.counting_set.specs.Counting.{Counts, AreCounted, counting_apply, count_in, held, adds, adds_of, add_letter};
+ghost use Rattle.counting_set.specs.Counting.{Counts, AreCounted, counting_apply, added, count_in, held, adds, adds_of, add_letter};
 
 use crate::counting::MAX_ITEM;
 
@@ -13,6 +14,23 @@ pub fn adds_of_one_are_counted()
     ensures { (here ranks : ℕ) (letters : List Letter) (lines : List (List ℕ)) →
         map adds letters ≡ map (λ line. Some (line, 1)) lines → length lines < 2 ^ 64 →
         AreCounted (fold_from counting_apply here ranks [] letters) lines }
+{}
+
+/// Where any number of an item is added, the items keep their order, an item that is new goes last, and the
+/// counts of others stand.
+pub fn a_new_item_goes_last()
+    ensures known { (item : List ℕ) (count : ℕ) (contents : Counts) → Contains (map (λ e. e.0) contents) item →
+        map (λ e. e.0) (added item count contents) ≡ map (λ e. e.0) contents }
+    ensures new { (item : List ℕ) (count : ℕ) (contents : Counts) → ¬ Contains (map (λ e. e.0) contents) item →
+        map (λ e. e.0) (added item count contents) ≡ map (λ e. e.0) contents ++ item ∷ [] }
+    ensures others { (item other : List ℕ) (count : ℕ) (contents : Counts) → other ≢ item →
+        count_in (added item count contents) other ≡ count_in contents other }
+{}
+
+/// Whatever letters run, and in whichever order, a shard that began empty has no item twice.
+pub fn no_item_stands_twice()
+    ensures { (here ranks : ℕ) (letters : List Letter) →
+        IsDistinct bytes_eq (map (λ e. e.0) (fold_from counting_apply here ranks [] letters)) }
 {}
 
 /// Whatever letters run, the count of an item is what it was and what they add to it, up to the end of

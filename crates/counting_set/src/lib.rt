@@ -9,7 +9,8 @@ mod owner;
 pub use counting::{Counting, MAX_ITEM};
 pub use insert::count_insert;
 pub use laws::{
-    adds_of_one_are_counted, an_insert_adds_one, counting_sends_nothing, counts_are_sums,
+    a_new_item_goes_last, adds_of_one_are_counted, an_insert_adds_one, counting_sends_nothing,
+    counts_are_sums, no_item_stands_twice,
 };
 pub use owner::{fnv, owner_of_key};
 

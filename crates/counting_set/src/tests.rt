@@ -330,10 +330,12 @@ fn a_rank_at_its_limit_inserts_nothing(rt: HostRuntime) -> Result<(), Fail> {
 
 #[test]
 fn the_laws_can_be_cited() {
+    a_new_item_goes_last();
     adds_of_one_are_counted();
     an_insert_adds_one();
     counting_sends_nothing();
     counts_are_sums();
+    no_item_stands_twice();
 }
 
 fn can_be_sent<T: Send>(value: T) -> T {

@@ -1,6 +1,7 @@
 -- What follows from the laws of reading.
 use Rattle.std.proofs.Common.{◌≡◌, ◌≢◌, [], ℕ, ◌^◌, ◌<◌, ◌≤◌, List, ◌++◌, length, Option, Some, None, Result, Ok, Err, sym, ap, ◌∙◌}
 use Rattle.std.proofs.lemmas.List.{append_cancel_left, append-nil}
+use Rattle.std.proofs.lemmas.Option.{none-some, same_Some}
 use Rattle.msg_codec.specs.declared.wire.WireFault.{WireFault}
 use Rattle.std.specs.Prelude.{IfOk, IfNone}
 use Rattle.msg_codec.specs.Reading.{whole}
@@ -19,17 +20,11 @@ apart reading spelled v w x y p q e =
     let same : v ≡ w = value_is (reading (spelled v ++ x)) v w (length (spelled v)) (length (spelled w)) p (ap reading e ∙ q) in
     (same, append_cancel_left (spelled w) x y (ap (λ z. spelled z ++ x) (sym same) ∙ e))
 
-same_some : {A : Type 0} (o : Option A) (x y : A) → o ≡ Some x → o ≡ Some y → x ≡ y
-same_some o x y e f = cc
-
 pub item_count_is : (item other : List ℕ) (count number : ℕ) → length item ≤ 1048576 → length other ≤ 1048576 → count < 2 ^ 64 → number < 2 ^ 64
     → spelled_item_count item count ≡ spelled_item_count other number → (item ≡ other) × (count ≡ number)
 item_count_is item other count number p q r s e =
-    let same = same_some (item_count_of (spelled_item_count item count)) (item, count) (other, number) (item_count_again item count p r) (ap item_count_of e ∙ item_count_again other number q s) in
+    let same = same_Some (item, count) (other, number) (sym (item_count_again item count p r) ∙ ap item_count_of e ∙ item_count_again other number q s) in
     (ap (λ (pair : List ℕ × ℕ). pair.0) same, ap (λ (pair : List ℕ × ℕ). pair.1) same)
-
-none_some : {A : Type 0} (o : Option A) (x : A) → None ≡ o → o ≡ Some x → ⊥
-none_some o x e f = cc
 
 -- what isn't found in all of the bytes isn't spelled by them
 pub none_is : {A E : Type 0} (reading : List ℕ → Result (A × ℕ) WireFault) (spelled : A → List ℕ) (P : A → Type 0) → ((v : A) (rest : List ℕ) → P v → reading (spelled v ++ rest) ≡ Ok (v, length (spelled v)))
@@ -38,4 +33,4 @@ none_is reading spelled P again (Err full) bytes e = tt
 none_is reading spelled P again (Ok (Some v)) bytes e = tt
 none_is reading spelled P again (Ok None) bytes e = λ v fits same.
     let read : reading bytes ≡ Ok (v, length bytes) = ap reading (same ∙ sym (append-nil (spelled v))) ∙ again v [] fits ∙ ap (λ n. Ok (v, n)) (ap length (sym same)) in
-    none_some (whole reading bytes) v e (whole_again reading bytes v read)
+    none-some v (e ∙ whole_again reading bytes v read)

@@ -2,6 +2,7 @@
 use Rattle.std.proofs.Common.{◌≡◌, ◌≢◌, ℕ, ◌^◌, ◌<◌, ◌≤◌, List, length, Option, Some, None, Bor, sym, ap, ◌∙◌}
 use Rattle.std.specs.Prelude.{IfSome, IfNone}
 use Rattle.std.specs.Option.{option_map}
+use Rattle.std.proofs.lemmas.Option.{none-some}
 use Rattle.msg_codec.specs.Bytes.{AreBytes}
 use Rattle.msg_codec.specs.ItemCount.{spelled_item_count, item_count_of}
 use Rattle.msg_codec.specs.Laws.{item_count_again, item_count_spelled}
@@ -17,10 +18,7 @@ pub short_is : (o : Option (Bor (List ℕ) × ℕ)) (bytes : List ℕ) → AreBy
 short_is None bytes fit e = tt
 short_is (Some found) bytes fit e = (item_count_spelled bytes found.0.now found.1 fit (sym e)).0
 
-none_some : {A : Type 0} (o : Option A) (x : A) → None ≡ o → o ≡ Some x → ⊥
-none_some o x e f = cc
-
 pub none_is : (o : Option (Bor (List ℕ) × ℕ)) (bytes : List ℕ) → seen o ≡ item_count_of bytes
     → IfNone o ((item : List ℕ) (count : ℕ) → length item ≤ 1048576 → count < 2 ^ 64 → bytes ≢ spelled_item_count item count)
-none_is None bytes e = λ item count short lt same. none_some (item_count_of bytes) (item, count) e (ap item_count_of same ∙ item_count_again item count short lt)
+none_is None bytes e = λ item count short lt same. none-some (item, count) (e ∙ ap item_count_of same ∙ item_count_again item count short lt)
 none_is (Some found) bytes e = tt

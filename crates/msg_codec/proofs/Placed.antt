@@ -1,8 +1,9 @@
 -- A letter that was spelled is found again at its place.
-use Rattle.std.proofs.Common.{◌≡◌, ℕ, zero, suc, ◌+◌, ◌<◌, List, [], ◌∷◌, ◌++◌, length, take, drop, get_or, All, Some, refl, sym, ap, subst, ◌∙◌, append_assoc, arith, add-zero, zero-add, length-append}
-use Rattle.std.specs.Prelude.{slice_get}
+use Rattle.std.proofs.Common.{◌≡◌, ◌≢◌, ℕ, zero, suc, ◌+◌, ◌<◌, List, [], ◌∷◌, ◌++◌, length, take, drop, get_or, All, Some, Result, Ok, Err, refl, sym, ap, subst, ◌∙◌, append_assoc, arith, add-zero, zero-add, length-append}
+use Rattle.std.specs.Prelude.{slice_get, OnOk, OnErr}
+use Rattle.std.specs.declared.alloc.AllocError.{AllocError}
 use Rattle.std.specs.Option.{option_map}
-use Rattle.std.proofs.lemmas.Option.{slice_get-map, slice_get-get_or}
+use Rattle.std.proofs.lemmas.Option.{slice_get-map, slice_get-get_or, get_or_from_slice_get}
 use Rattle.std.specs.Int.{w32, from_le_bytes}
 use Rattle.std.proofs.lemmas.List.{append_cancel_left, take_at, drop_at, append-nil, length-map, get_or-drop}
 use Rattle.std.proofs.lemmas.List.Elements.{All-tail, All-push}
@@ -10,7 +11,7 @@ use Rattle.std.proofs.lemmas.Grind.{flat_map-append}
 use Rattle.std.proofs.lemmas.Nat.{from_le_bytes-to_le_bytes_4}
 use Rattle.msg_codec.specs.declared.letter.Letter.{Letter}
 use Rattle.msg_codec.specs.Spelling.{header, spelled_letter, spelling}
-use Rattle.msg_codec.specs.Placed.{Fits, told_length, first_letter, letters_at, places_from, IsBatch, IsHeld}
+use Rattle.msg_codec.specs.Placed.{Fits, told_length, first_letter, letters_at, starts_of, places_from, IsBatch, IsHeld}
 
 abbrev made : ℕ → ℕ → ℕ → List ℕ → Letter
 made to from tag body = record { to = to; from = from; tag = tag; body = body }
@@ -86,6 +87,43 @@ pushed bytes starts l batch fits =
       letters = subst (λ (b : List ℕ). letters_at b (starts ++ length bytes ∷ []) ≡ old ++ l ∷ []) same_bytes (subst (λ (p : List ℕ). letters_at (spelling (old ++ l ∷ [])) p ≡ old ++ l ∷ []) same_starts (letters_again [] (old ++ l ∷ []) fit));
       whole = subst (λ (b : List ℕ). IsBatch b (starts ++ length bytes ∷ [])) same_bytes (subst (λ (p : List ℕ). IsBatch (spelling (old ++ l ∷ [])) p) same_starts (is_batch (old ++ l ∷ []) fit));
     }
+
+-- bytes and later starts after a push: with the letter last, unless memory ran out, and a batch either way
+pub record IsPut (answer : Result (Unit {0}) AllocError) (bytes later new newer : List ℕ) (l : Letter) : Type 0 where
+  pub letters : OnOk answer (letters_at new (starts_of new newer) ≡ letters_at bytes (starts_of bytes later) ++ l ∷ [])
+  pub whole : IsBatch new (starts_of new newer)
+
+is_put : (done : Unit {0}) (bytes later new newer : List ℕ) (l : Letter) → IsPushed bytes (starts_of bytes later) l → new ≡ bytes ++ spelled_letter l → starts_of new newer ≡ starts_of bytes later ++ length bytes ∷ [] → IsPut (Ok done) bytes later new newer l
+is_put done bytes later new newer l one new-is starts-are =
+    record { letters = rw (starts-are, new-is) one.letters; whole = rw (starts-are, new-is) one.whole }
+
+none_later : (later : List ℕ) → IsBatch [] later → later ≡ []
+none_later [] batch = refl
+none_later (start ∷ later) batch =
+    let spelled : [] ≡ spelling (letters_at [] (start ∷ later)) = batch.spelled in
+    absurd cc
+
+-- the first letter begins at 0, and that is not kept
+pub first_put : (answer : Result (Unit {0}) AllocError) (bytes later new : List ℕ) (l : Letter) → IsBatch bytes (starts_of bytes later) → length bytes ≡ 0
+    → OnOk answer (new ≡ bytes ++ spelled_letter l) → OnErr answer (new ≡ bytes) → OnOk answer (Fits l) → IsPut answer bytes later new later l
+first_put (Err full) bytes later new l batch none put kept fits = record { letters = tt; whole = rw kept batch }
+first_put (Ok done) [] later new l batch none put kept fits =
+    is_put done [] later new later l (pushed [] later l batch fits) put (rw (put, none_later later batch) refl)
+first_put (Ok done) (b ∷ bytes) later new l batch none put kept fits = absurd (omega arith)
+
+pub later_put : (bytes later new newer : List ℕ) (l : Letter) → IsBatch bytes (starts_of bytes later) → length bytes ≢ 0 → new ≡ bytes ++ spelled_letter l → newer ≡ later ++ length bytes ∷ [] → Fits l → IsPut (Ok tt) bytes later new newer l
+later_put [] later new newer l batch some put start-put fits = absurd (some refl)
+later_put (b ∷ bytes) later new newer l batch some put start-put fits =
+    is_put tt (b ∷ bytes) later new newer l (pushed (b ∷ bytes) (0 ∷ later) l batch fits) put (rw (put, start-put) refl)
+
+pub none_counted : (bytes later : List ℕ) (letters : List Letter) → IsBatch bytes (starts_of bytes later) → letters_at bytes (starts_of bytes later) ≡ letters → length bytes ≡ 0 → 0 ≡ length letters
+none_counted [] later letters batch same none = rw (← same, none_later later batch) refl
+none_counted (b ∷ bytes) later letters batch same none = absurd (omega arith)
+
+pub start_is : (bytes later : List ℕ) (letters : List Letter) (k place : ℕ) → IsBatch bytes (starts_of bytes later) → letters_at bytes (starts_of bytes later) ≡ letters → k < length letters → slice_get (0 ∷ later) k ≡ Some place → place ≡ get_or (starts_of bytes later) k place
+start_is [] later letters k place batch same lt at =
+    absurd (omega (arith, lt, none_counted [] later letters batch same refl))
+start_is (b ∷ bytes) later letters k place batch same lt at = sym (get_or_from_slice_get (0 ∷ later) k place place at)
 
 held_at : (before : List ℕ) (letters : List Letter) (k d : ℕ) → All Fits letters → k < length letters → IsHeld (before ++ spelling letters) (get_or (places_from (length before) letters) k d)
 held_at before [] k d fit lt = absurd (omega arith)

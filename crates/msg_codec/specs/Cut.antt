@@ -1,11 +1,11 @@
--- The laws of the faults of reading: a spelling that is cut is short, and what is too long stays so.
-use Rattle.std.proofs.Common.{◌≡◌, ◌≢◌, ℕ, ◌+◌, ◌^◌, ◌<◌, ◌≤◌, Bool, true, false, cond, ltb, List, [], ◌∷◌, ◌++◌, length, take, drop, Result, Ok, Err, refl, sym, ap, ◌∙◌, append_assoc, arith, length-append, length-drop, ◌⊎◌, inl, inr}
+-- The laws of the faults of reading: a spelling that is cut is short, what is short is so for want of bytes, and what is too long stays so.
+use Rattle.std.proofs.Common.{◌≡◌, ◌≢◌, ℕ, ◌+◌, ◌^◌, ◌<◌, ◌≤◌, Bool, true, false, cond, ltb, List, [], ◌∷◌, ◌++◌, length, take, drop, Result, Ok, Err, refl, sym, ap, ◌∙◌, append_assoc, arith, replicate, length-append, length-drop, ◌⊎◌, inl, inr}
 use Rattle.std.specs.Int.{w32, w64, from_le_bytes}
 use Rattle.std.proofs.lemmas.Bool.{cases_lt, ltb-false, le-ltb, lt-ltb}
-use Rattle.std.proofs.lemmas.List.{append-nil, take_at, drop_at, length-take, take-append-drop, take-append-le, drop-append-le}
-use Rattle.std.proofs.lemmas.List.Elements.{All-drop}
+use Rattle.std.proofs.lemmas.List.{append-nil, length-replicate, take_at, drop_at, length-take, take-append-drop, take-append-le, drop-append-le}
+use Rattle.std.proofs.lemmas.List.Elements.{All-drop, All-append, All-replicate}
 use Rattle.msg_codec.specs.declared.wire.WireFault.{WireFault}
-use Rattle.msg_codec.specs.declared.wire.WireFault.TheVariants.{Short, TooLong}
+use Rattle.msg_codec.specs.declared.wire.WireFault.TheVariants.{Short, TooLong, NoMemory}
 use Rattle.msg_codec.specs.Bytes.{AreBytes}
 use Rattle.msg_codec.specs.Laws.{front_4, told_is}
 use Rattle.msg_codec.specs.Reading.{◌>>=◌, number_reading, told, body_reading, pair_reading}
@@ -97,6 +97,16 @@ second_err : {A C : Type 0} (r : Result A WireFault) (f : A → C) (d : WireFaul
 second_err (Ok x) f d e = absurd cc
 second_err (Err c) f d e = let same : c ≡ d = cc in ap (λ z. Err z) same
 
+-- What was read is read again, whatever follows.
+stays : {A : Type 0} (first : List ℕ → Result (A × ℕ) WireFault) (P : A → Type 0) (s : A → List ℕ)
+    → ((a : A) (rest : List ℕ) → P a → first (s a ++ rest) ≡ Ok (a, length (s a)))
+    → (bytes more : List ℕ) (x : A × ℕ) → first bytes ≡ Ok x → P x.0 × (take x.1 bytes ≡ s x.0) × (x.1 ≤ length bytes) → first (bytes ++ more) ≡ Ok x
+stays first P s again bytes more x at is =
+    let rest = drop x.1 bytes in
+    let size : length (s x.0) ≡ x.1 = ap length (sym is.1) ∙ omega (arith, is.2, length-take x.1 bytes) in
+    let whole : bytes ++ more ≡ s x.0 ++ (rest ++ more) = ap (λ z. z ++ more) (sym (take-append-drop x.1 bytes) ∙ ap (λ z. z ++ rest) is.1) ∙ append_assoc (s x.0) rest more in
+    ap first whole ∙ again x.0 (rest ++ more) is.0 ∙ ap (λ n. Ok (x.0, n)) size
+
 pub pair_long : {A B : Type 0} (first : List ℕ → Result (A × ℕ) WireFault) (second : List ℕ → Result (B × ℕ) WireFault) (P : A → Type 0) (s : A → List ℕ)
     → ((bytes more : List ℕ) → AreBytes bytes → first bytes ≡ Err TooLong → first (bytes ++ more) ≡ Err TooLong)
     → ((bytes more : List ℕ) → AreBytes bytes → second bytes ≡ Err TooLong → second (bytes ++ more) ≡ Err TooLong)
@@ -110,9 +120,95 @@ pair_long first second P s one two again spelled bytes more fit e =
       | inr (x, at, left) ↦
           let is = spelled bytes x.0 x.1 fit at in
           let rest = drop x.1 bytes in
-          let size : length (s x.0) ≡ x.1 = ap length (sym is.1) ∙ omega (arith, is.2, length-take x.1 bytes) in
-          let whole : bytes ++ more ≡ s x.0 ++ (rest ++ more) = ap (λ z. z ++ more) (sym (take-append-drop x.1 bytes) ∙ ap (λ z. z ++ rest) is.1) ∙ append_assoc (s x.0) rest more in
-          let read : first (bytes ++ more) ≡ Ok (x.0, x.1) = ap first whole ∙ again x.0 (rest ++ more) is.0 ∙ ap (λ n. Ok (x.0, n)) size in
+          let read : first (bytes ++ more) ≡ Ok x = stays first P s again bytes more x at is in
           let long : second rest ≡ Err TooLong = second_err (second rest) (λ b. ((x.0, b.0), x.1 + b.1)) TooLong left in
           rw (read, drop-append-le x.1 bytes more is.2, two rest more (All-drop (λ b. b < 2 ^ 8) x.1 bytes fit) long) refl
+    ]
+
+-- ---- short for want of bytes
+
+-- more bytes after which what is read is short no more
+abbrev Ends : {A : Type 0} → (List ℕ → Result A WireFault) → List ℕ → Type 0
+Ends reading bytes = (more : List ℕ) × AreBytes more × (reading (bytes ++ more) ≢ Err Short)
+
+zeros : (n : ℕ) → (more : List ℕ) × AreBytes more × (length more ≡ n)
+zeros n = (replicate n 0, All-replicate (λ b. b < 2 ^ 8) n 0 (omega arith), length-replicate n 0)
+
+number_whole : {A : Type 0} (b : Bool) (y : A) → b ≡ false → cond b (Err Short) (Ok y) ≢ Err Short
+number_whole true y is e = cc
+number_whole false y is e = cc
+
+pub number_wants : (bytes : List ℕ) → AreBytes bytes → number_reading bytes ≡ Err Short → Ends number_reading bytes
+unfolding number_reading
+number_wants bytes fit e =
+    let more = zeros 8 in
+    let eight : ltb (length (bytes ++ more.0)) 8 ≡ false = le-ltb _ _ (omega (arith, more.2, length-append bytes more.0)) in
+    (more.0, more.1, number_whole _ _ eight)
+
+body_whole : {A : Type 0} (four most all : Bool) (y : A) → four ≡ false → (most ≡ false → all ≡ false) → cond four (Err Short) (cond most (Err TooLong) (cond all (Err Short) (Ok y))) ≢ Err Short
+body_whole true most all y is fits e = cc
+body_whole false true all y is fits e = cc
+body_whole false false true y is fits e = let all : true ≡ false = fits refl in cc
+body_whole false false false y is fits e = cc
+
+-- As many bytes as the longest body takes are enough, whatever its length field tells.
+pub body_wants : (bytes : List ℕ) → AreBytes bytes → body_reading bytes ≡ Err Short → Ends body_reading bytes
+unfolding body_reading
+body_wants bytes fit e =
+    let more = zeros 1048580 in
+    let all = bytes ++ more.0 in
+    let four : ltb (length all) 4 ≡ false = le-ltb _ _ (omega (arith, more.2, length-append bytes more.0)) in
+    let whole : ltb 1048576 (told all) ≡ false → ltb (length (drop 4 all)) (told all) ≡ false =
+    λ most. le-ltb _ _ (omega (arith, ltb-false _ _ most, length-drop 4 all, more.2, length-append bytes more.0)) in
+    (more.0, more.1, body_whole _ _ _ _ four whole)
+
+short_or : {A : Type 0} (r : Result A WireFault) → (r ≡ Err Short) ⊎ (r ≢ Err Short)
+short_or (Ok x) = inr (λ e. cc)
+short_or (Err Short) = inl refl
+short_or (Err TooLong) = inr (λ e. cc)
+short_or (Err NoMemory) = inr (λ e. cc)
+
+ok_or : {A : Type 0} (r : Result A WireFault) → ((x : A) × (r ≡ Ok x)) ⊎ ((d : WireFault) × (r ≡ Err d))
+ok_or (Ok x) = inl (x, refl)
+ok_or (Err d) = inr (d, refl)
+
+-- What isn't short needs no more.
+ends : {A : Type 0} (reading : List ℕ → Result A WireFault) → ((bytes : List ℕ) → AreBytes bytes → reading bytes ≡ Err Short → Ends reading bytes)
+    → (bytes : List ℕ) → AreBytes bytes → Ends reading bytes
+ends reading wants bytes fit =
+    elim (short_or (reading bytes)) [
+      | inl short ↦ wants bytes fit short
+      | inr other ↦ ([], All-replicate (λ b. b < 2 ^ 8) 0 0 (omega arith), rw (append-nil bytes) other)
+    ]
+
+-- Where the first is read, what the second wants is enough.
+second_ends : {A B : Type 0} (first : List ℕ → Result (A × ℕ) WireFault) (second : List ℕ → Result (B × ℕ) WireFault) (P : A → Type 0) (s : A → List ℕ)
+    → ((bytes : List ℕ) → AreBytes bytes → second bytes ≡ Err Short → Ends second bytes)
+    → ((a : A) (rest : List ℕ) → P a → first (s a ++ rest) ≡ Ok (a, length (s a)))
+    → (bytes : List ℕ) (x : A × ℕ) → AreBytes bytes → first bytes ≡ Ok x → P x.0 × (take x.1 bytes ≡ s x.0) × (x.1 ≤ length bytes) → Ends (pair_reading first second) bytes
+unfolding pair_reading
+second_ends first second P s two again bytes x fit at is =
+    let rest = drop x.1 bytes in
+    let end = ends second two rest (All-drop (λ b. b < 2 ^ 8) x.1 bytes fit) in
+    let read : first (bytes ++ end.0) ≡ Ok x = stays first P s again bytes end.0 x at is in
+    (end.0, end.1, rw (read, drop-append-le x.1 bytes end.0 is.2) (λ short. end.2 (second_err (second (rest ++ end.0)) (λ b. ((x.0, b.0), x.1 + b.1)) Short short)))
+
+-- First what the first wants, and then what the second wants behind it.
+pub pair_wants : {A B : Type 0} (first : List ℕ → Result (A × ℕ) WireFault) (second : List ℕ → Result (B × ℕ) WireFault) (P : A → Type 0) (s : A → List ℕ)
+    → ((bytes : List ℕ) → AreBytes bytes → first bytes ≡ Err Short → Ends first bytes)
+    → ((bytes : List ℕ) → AreBytes bytes → second bytes ≡ Err Short → Ends second bytes)
+    → ((a : A) (rest : List ℕ) → P a → first (s a ++ rest) ≡ Ok (a, length (s a)))
+    → ((bytes : List ℕ) (a : A) (len : ℕ) → AreBytes bytes → first bytes ≡ Ok (a, len) → P a × (take len bytes ≡ s a) × (len ≤ length bytes))
+    → (bytes : List ℕ) → AreBytes bytes → pair_reading first second bytes ≡ Err Short → Ends (pair_reading first second) bytes
+unfolding pair_reading
+pair_wants first second P s one two again spelled bytes fit e =
+    let front = ends first one bytes fit in
+    let longer = bytes ++ front.0 in
+    let fits : AreBytes longer = All-append (λ b. b < 2 ^ 8) bytes front.0 fit front.1 in
+    elim (ok_or (first longer)) [
+      | inl (x, at) ↦
+          let back = second_ends first second P s two again longer x fits at (spelled longer x.0 x.1 fits at) in
+          (front.0 ++ back.0, All-append (λ b. b < 2 ^ 8) front.0 back.0 front.1 back.1, rw (← append_assoc bytes front.0 back.0) back.2)
+      | inr (d, at) ↦
+          (front.0, front.1, rw at (λ short. let same : d ≡ Short = cc in front.2 (at ∙ ap (λ z. Err z) same)))
     ]

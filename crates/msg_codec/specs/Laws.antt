@@ -142,9 +142,6 @@ pair_spelled {A} {B} first second P Q s t one two bytes pair len fit e =
 
 -- ---- all of the bytes
 
-some_is : {A : Type 0} (x y : A) → Some x ≡ Some y → x ≡ y
-some_is x y e = cc
-
 if_whole_some : {A : Type 0} (len : ℕ) (r : Result (A × ℕ) WireFault) (v : A) → if_whole len r ≡ Some v → r ≡ Ok (v, len)
 if_whole_some len (Ok (x, i)) v e = some_if (eqb i len) x v i len refl e
 if_whole_some len (Err d) v e = absurd cc

@@ -30,6 +30,11 @@ first_letter bytes = record {
 abbrev pub letters_at : List ℕ → List ℕ → List Letter
 letters_at bytes places = map (λ place. first_letter (drop place bytes)) places
 
+-- where the letters in the bytes begin: the first, where there are bytes, at 0, and then the later ones
+abbrev pub starts_of : List ℕ → List ℕ → List ℕ
+starts_of [] later = later
+starts_of (b ∷ bytes) later = 0 ∷ later
+
 -- where each of the letters begins, the first at the number given
 abbrev pub places_from : ℕ → List Letter → List ℕ
 places_from place [] = []

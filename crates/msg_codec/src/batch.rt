@@ -11,23 +11,24 @@ use crate::letter::HEADER_LEN;
 use std::alloc::{AllocError, Global};
 use std::marker::Model;
 
-/// A list of letters, kept as it is sent: the letters' spellings, one after another.
+/// A list of letters, kept as it is sent: the letters' spellings, one after another. The first begins
+/// at 0, so that a batch of one letter keeps no start.
 #[derive(Debug, Drop)]
 pub struct Batch {
     bytes: Vec<u8>,
-    starts: Vec<usize>,
+    later_starts: Vec<usize>,
 }
 
 impl Model for Batch {
     ghost use Rattle.std.specs.Prelude.{List};
     ghost use Rattle.msg_codec.specs.declared.letter.Letter.{Letter};
-    ghost use Rattle.msg_codec.specs.Placed.{letters_at, IsBatch};
+    ghost use Rattle.msg_codec.specs.Placed.{letters_at, starts_of, IsBatch};
 
     ghost Value = { List Letter };
 
-    ghost view = { λ batch. letters_at batch.bytes.items batch.starts.items };
+    ghost view = { λ batch. letters_at batch.bytes.items (starts_of batch.bytes.items batch.later_starts.items) };
 
-    ghost invariant = { λ batch. IsBatch batch.bytes.items batch.starts.items };
+    ghost invariant = { λ batch. IsBatch batch.bytes.items (starts_of batch.bytes.items batch.later_starts.items) };
 }
 
 /// The header of a letter.
@@ -84,6 +85,17 @@ fn read_at(bytes: &[u8], place: usize) -> LetterRef<'_>
     read_first(rest)
 }
 
+/// Where the letter at place `k` begins: the first at 0, which is not kept.
+fn start_at(later_starts: &[usize], k: u64) -> usize
+    requires { k < length (0 ∷ later_starts.now) }
+    ensures { slice_get (0 ∷ later_starts.now) k ≡ Some result }
+{
+    if k == 0 {
+        return 0;
+    }
+    later_starts[k as usize - 1]
+}
+
 impl Batch {
     /// A batch of no letters. It takes no memory.
     pub fn empty(alloc: Global) -> Batch
@@ -91,7 +103,7 @@ impl Batch {
     {
         Batch {
             bytes: Vec::new(alloc),
-            starts: Vec::new(alloc),
+            later_starts: Vec::new(alloc),
         }
     }
 
@@ -100,10 +112,13 @@ impl Batch {
         ensures last { OnOk result (self.new ≡ self.old ++ letter_of letter.entry ∷ []) }
         ensures unchanged { OnErr result (self.new ≡ self.old) }
     {
-        self.starts.reserve(1)?;
         let start = self.bytes.len();
+        if start == 0 {
+            return append(&mut self.bytes, &letter);
+        }
+        self.later_starts.reserve(1)?;
         append(&mut self.bytes, &letter)?;
-        self.starts.push(start)?;
+        self.later_starts.push(start)?;
         Ok(())
     }
 
@@ -113,7 +128,7 @@ impl Batch {
     {
         Ok(Batch {
             bytes: Vec::from_slice(alloc, &self.bytes)?,
-            starts: Vec::from_slice(alloc, &self.starts)?,
+            later_starts: Vec::from_slice(alloc, &self.later_starts)?,
         })
     }
 
@@ -121,7 +136,10 @@ impl Batch {
     pub fn count(&self) -> u64
         ensures { result ≡ length self.now }
     {
-        self.starts.len() as u64
+        if self.bytes.is_empty() {
+            return 0;
+        }
+        self.later_starts.len() as u64 + 1
     }
 
     /// The number of the bytes that spell it.
@@ -136,7 +154,7 @@ impl Batch {
         requires { k < length self.now }
         ensures { slice_get self.now k ≡ Some (letter_of result) }
     {
-        let start = self.starts[k as usize];
+        let start = start_at(&self.later_starts, k);
         read_at(&self.bytes, start)
     }
 

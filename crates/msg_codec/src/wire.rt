@@ -67,6 +67,9 @@ pub trait Wire: Drop {
     /// Where the bytes end before a spelling does, they are short.
     ghost short_where_cut: { (value : Self) (front back : List ℕ) → in_range value → spelled value ≡ front ++ back → back ≢ [] → reading front ≡ Err Short };
 
+    /// Where the bytes are short, more bytes end that: short is said only for want of bytes.
+    ghost short_wants_bytes: { (bytes : List ℕ) → AreBytes bytes → reading bytes ≡ Err Short → (more : List ℕ) × AreBytes more × (reading (bytes ++ more) ≢ Err Short) };
+
     /// What is too long stays so, whatever follows it.
     ghost too_long_stays: { (bytes more : List ℕ) → AreBytes bytes → reading bytes ≡ Err TooLong → reading (bytes ++ more) ≡ Err TooLong };
 }
@@ -130,7 +133,7 @@ impl Wire for u64 {
     ghost use Rattle.msg_codec.specs.Reading.{number_reading};
     ghost use Rattle.msg_codec.specs.Spelling.{spelled_number};
     ghost use Rattle.msg_codec.specs.Laws.{number_again, number_spelled};
-    ghost use Rattle.msg_codec.specs.Cut.{number_cut, number_long};
+    ghost use Rattle.msg_codec.specs.Cut.{number_cut, number_long, number_wants};
 
     ghost in_range = { λ n. n < 2 ^ 64 };
 
@@ -143,6 +146,8 @@ impl Wire for u64 {
     ghost read_spelled = { number_spelled };
 
     ghost short_where_cut = { λ n front back _ whole some. number_cut n front back whole some };
+
+    ghost short_wants_bytes = { number_wants };
 
     ghost too_long_stays = { number_long };
 
@@ -161,7 +166,7 @@ impl Wire for Body {
     ghost use Rattle.msg_codec.specs.Reading.{body_reading};
     ghost use Rattle.msg_codec.specs.Spelling.{spelled_body};
     ghost use Rattle.msg_codec.specs.Laws.{body_again, body_spelled};
-    ghost use Rattle.msg_codec.specs.Cut.{body_cut, body_long};
+    ghost use Rattle.msg_codec.specs.Cut.{body_cut, body_long, body_wants};
 
     ghost in_range = { λ body. (length body ≤ 1048576) × AreBytes body };
 
@@ -174,6 +179,8 @@ impl Wire for Body {
     ghost read_spelled = { body_spelled };
 
     ghost short_where_cut = { λ body front back fits whole some. body_cut body front back fits.0 whole some };
+
+    ghost short_wants_bytes = { body_wants };
 
     ghost too_long_stays = { body_long };
 
@@ -191,7 +198,7 @@ impl<A: Wire, B: Wire> Wire for (A, B) {
     ghost use Rattle.std.specs.Prelude.{◌++◌};
     ghost use Rattle.msg_codec.specs.Reading.{pair_reading};
     ghost use Rattle.msg_codec.specs.Laws.{pair_again, pair_spelled};
-    ghost use Rattle.msg_codec.specs.Cut.{pair_cut, pair_long};
+    ghost use Rattle.msg_codec.specs.Cut.{pair_cut, pair_long, pair_wants};
 
     ghost in_range = { λ pair. A.in_range pair.0 × B.in_range pair.1 };
 
@@ -205,6 +212,8 @@ impl<A: Wire, B: Wire> Wire for (A, B) {
 
     ghost short_where_cut = { λ pair front back fits whole some. pair_cut A.reading B.reading pair.0 (A.spelled pair.0) (B.spelled pair.1) front back
         (λ x y. A.short_where_cut pair.0 x y fits.0) (λ x y. B.short_where_cut pair.1 x y fits.1) (λ rest. A.read_again pair.0 rest fits.0) whole some };
+
+    ghost short_wants_bytes = { pair_wants A.reading B.reading A.in_range A.spelled A.short_wants_bytes B.short_wants_bytes A.read_again A.read_spelled };
 
     ghost too_long_stays = { pair_long A.reading B.reading A.in_range A.spelled A.too_long_stays B.too_long_stays A.read_again A.read_spelled };
 

@@ -1,7 +1,7 @@
 -- Honest logs that agree about each link make a sound world.
 use Rattle.std.proofs.Common.{◌≡◌, ◌≢◌, ℕ, ◌<◌, true, false, [], refl, sym, ◌∙◌, subst, inl, inr, arith}
 use Rattle.std.specs.Bool.{IsTrue}
-use Rattle.std.proofs.lemmas.Bool.{cases_lt}
+use Rattle.std.proofs.lemmas.Bool.{cases_lt, false_from_ne_true}
 use Rattle.msg_codec.specs.declared.letter.Letter.{Letter}
 use Rattle.ygm_route.specs.declared.scheme.Scheme.{Scheme}
 use Rattle.ygm_route.specs.Layout.{Shape, AreRanks}
@@ -16,7 +16,7 @@ use Rattle.world_core.specs.Sound.{IsPrefix, IsOnPath, IsSound}
 use Rattle.world_core.specs.World.{Logs, log_of}
 use Rattle.world_core.proofs.Carried.{IsCarried, IsThird, between}
 use Rattle.world_core.proofs.OnPath.{Base, pair_of, alone, carried_put, carried_taken}
-use Rattle.world_core.proofs.Only.{only_put, only_taken, false_test}
+use Rattle.world_core.proofs.Only.{only_put, only_taken}
 use Rattle.world_core.proofs.Lists.{prefix_trans, prefix_filter, prefix_joined, all_weaker, filter_none}
 
 module _ (world : Logs) (base : Base world) where
@@ -88,7 +88,7 @@ module _ (world : Logs) (base : Base world) where
         to_within = (let P : ℕ → Type 0 = λ x. x < layout.ranks in subst P (pair_of s d l h).1 c.lawful.to_within);
       }) in
       only_taken (is_of_pair s d) 0 (λ a l. IsCarried layout scheme a r l) (λ a l c h. absurd (never a r l c h)) (log_of world r) (λ a. carried_taken world base a r)
-      ∙ filter_none (is_of_pair s d) _ (all_weaker _ (λ l. is_of_pair s d l ≡ false) _ (λ l c. false_test (is_of_pair s d l) (never 0 r l c)) (carried_taken world base 0 r))
+      ∙ filter_none (is_of_pair s d) _ (all_weaker _ (λ l. is_of_pair s d l ≡ false) _ (λ l c. false_from_ne_true (is_of_pair s d l) (never 0 r l c)) (carried_taken world base 0 r))
 
   pub got_prefix : (s d : ℕ) → IsPrefix (pair_taken s d (log_of world d)) (pair_put s d (log_of world s))
   got_prefix s d = elim (cases_lt s layout.ranks) [

@@ -1,5 +1,5 @@
 -- What an honest log has, whatever the other ranks do.
-use Rattle.std.proofs.Common.{◌≡◌, ℕ, zero, suc, ◌≤◌, ◌<◌, ◌^◌, Bool, true, false, nat_eq, eqb-true, ne_eqb, Option, Some, None, List, [], ◌∷◌, ◌++◌, length, take, slice_get, get_or, refl, sym, ap, ◌∙◌, subst, append-nil, inl, inr, if◌then◌else◌, arith, add-one, length-append, le_of_lt}
+use Rattle.std.proofs.Common.{◌≡◌, ℕ, zero, suc, ◌≤◌, ◌<◌, ◌^◌, Bool, true, false, nat_eq, eqb-true, ne_eqb, Some, None, List, [], ◌∷◌, ◌++◌, length, take, slice_get, get_or, refl, sym, ap, ◌∙◌, subst, append-nil, inl, inr, if◌then◌else◌, arith, add-one, length-append, le_of_lt}
 use Rattle.std.specs.List.{AllByRecursion}
 use Rattle.std.proofs.lemmas.Grind.{flat_map-append}
 use Rattle.msg_codec.specs.declared.letter.Letter.{Letter}
@@ -21,7 +21,7 @@ use Rattle.world_core.proofs.Lists.{all_append, or_false_second, prefix_longer}
 use Rattle.std.proofs.lemmas.Bool.{cases_lt}
 use Rattle.std.proofs.Math.Seq.{take-append_seam, take-length}
 use Rattle.std.proofs.lemmas.List.{take_more, take-append-le}
-use Rattle.std.proofs.lemmas.Option.{slice_get-get_or, slice_get_within}
+use Rattle.std.proofs.lemmas.Option.{same_Some, slice_get-get_or, slice_get_within}
 
 pub record Alone (me : Local) : Type 0 where
   pub carry : (to : ℕ) → AllByRecursion (IsSent me.layout me.scheme me.here to) (letters_of (batches_put to me.log))
@@ -37,9 +37,6 @@ slice_get_left (x ∷ xs) ys (suc k) lt = slice_get_left xs ys k (omega arith)
 pub slice_get_end : {X : Type 0} (xs : List X) (y : X) → slice_get (xs ++ y ∷ []) (length xs) ≡ Some y
 slice_get_end [] y = refl
 slice_get_end (x ∷ xs) y = slice_get_end xs y
-
-some_is : {X : Type 0} (x y : X) → (let o : Option X = Some x in o) ≡ Some y → x ≡ y
-some_is x y h = cc
 
 abbrev pub after : Local → Entry → Local
 after me entry = record me { log = me.log ++ entry ∷ [] }
@@ -117,7 +114,7 @@ honest_more me entry honest ok k to letters h =
           let inside : k < length (me.log ++ entry ∷ []) = slice_get_within _ k _ h in
           let at_end : length me.log ≡ k = omega (arith, length-append me.log (entry ∷ [])) in
           let Q : ℕ → Type 0 = λ n. slice_get (me.log ++ entry ∷ []) n ≡ Some (Put to letters) in
-          let is_entry : entry ≡ Put to letters = some_is _ _ (sym (slice_get_end me.log entry) ∙ subst Q (sym at_end) h) in
+          let is_entry : entry ≡ Put to letters = same_Some _ _ (sym (slice_get_end me.log entry) ∙ subst Q (sym at_end) h) in
           let R : ℕ → Type 0 = λ n. P (take n (me.log ++ entry ∷ [])) in
           subst R at_end (subst P (sym (take-append_seam me.log (entry ∷ []))) (ok to letters is_entry))
     ]

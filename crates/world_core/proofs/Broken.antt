@@ -1,11 +1,12 @@
 -- What a put that breaks no rule has.
 use Rattle.std.proofs.Common.{◌≡◌, ℕ, ◌<◌, false, None, List, [], ◌∷◌, ltb-true}
 use Rattle.std.specs.List.{AllByRecursion}
+use Rattle.std.proofs.lemmas.Bool.{not-false}
 use Rattle.msg_codec.specs.declared.letter.Letter.{Letter}
 use Rattle.world_core.specs.Local.{Local}
 use Rattle.world_core.specs.Rules.{Rule, rules, Deed, first_broken, first_broken_of, no_such_rank, empty_batch, some_letter_after, bad_tag, wrong_hop, not_held, too_many_sent}
 use Rattle.world_core.specs.Rules.Deed.{Puts}
-use Rattle.world_core.proofs.Lists.{cond_none, or_false_first, or_false_second, not_false}
+use Rattle.world_core.proofs.Lists.{cond_none, or_false_first, or_false_second}
 
 pub record Unbroken (me : Local) (to : ℕ) (letters : List Letter) : Type 0 where
   pub ranks : no_such_rank me (Puts to letters) ≡ false
@@ -31,7 +32,7 @@ unbroken me to letters h =
 -- ---- of the batch
 
 pub sender_within : (me : Local) (to : ℕ) (letters : List Letter) → no_such_rank me (Puts to letters) ≡ false → me.here < me.layout.ranks
-sender_within me to letters h = ltb-true _ _ ((not_false _ (or_false_first _ _ (or_false_first _ _ h))))
+sender_within me to letters h = ltb-true _ _ ((not-false _ (or_false_first _ _ (or_false_first _ _ h))))
 
 pub receiver_within : (me : Local) (to : ℕ) (letters : List Letter) → no_such_rank me (Puts to letters) ≡ false → to < me.layout.ranks
-receiver_within me to letters h = ltb-true _ _ ((not_false _ (or_false_second _ _ (or_false_first _ _ h))))
+receiver_within me to letters h = ltb-true _ _ ((not-false _ (or_false_second _ _ (or_false_first _ _ h))))

@@ -2,6 +2,7 @@
 use Rattle.std.proofs.Common.{◌≡◌, ◌≢◌, ℕ, ◌<◌, Bool, true, false, not, ◌||◌, nat_eq, eqb-true, ltb-true, List, [], ◌∷◌, ◌++◌, length, drop, refl, eq-eqb, ne_eqb, if◌then◌else◌}
 use Rattle.std.specs.Bool.{IsTrue}
 use Rattle.std.specs.List.{AllByRecursion, list_any}
+use Rattle.std.proofs.lemmas.Bool.{not-false}
 use Rattle.msg_codec.specs.declared.letter.Letter.{Letter}
 use Rattle.ygm_route.specs.declared.scheme.Scheme.{Scheme}
 use Rattle.ygm_route.specs.Hop.{hop}
@@ -10,7 +11,7 @@ use Rattle.ygm_route.specs.Path.{crosses, path}
 use Rattle.world_core.specs.Local.{Local, is_rank, is_between, having_put, to_forward}
 use Rattle.world_core.specs.Pairs.{is_data, pair_put, pair_taken}
 use Rattle.world_core.specs.Rules.{some_letter_after, bad_tag, wrong_hop, not_held, is_first_of}
-use Rattle.world_core.proofs.Lists.{or_false_first, or_false_second, not_false, and_first, and_second, and_false_second}
+use Rattle.world_core.proofs.Lists.{or_false_first, or_false_second, and_first, and_second, and_false_second}
 
 -- a lawful letter that a rank puts to its next hop; one of another rank isn't for this one
 pub record IsSent (layout : Shape) (scheme : Scheme) (a b : ℕ) (l : Letter) : Type 0 where
@@ -65,7 +66,7 @@ forwarding me s d l h = let both = first_if _ _ l h in (not_equal _ _ (and_secon
 leaving : (me : Local) (to : ℕ) (l : Letter) → is_data l ≡ true → not_held me to l ≡ false → l.from ≢ me.here → me.here ≢ l.to
 leaving me to l tag ok other =
     let apart : nat_eq l.from me.here ≡ false = ne_eqb _ _ other in
-    let held : is_first_of (to_forward me l.from l.to) l ≡ true = not_false _ (and_false_second _ _ (rw (tag, apart) refl) ok) in
+    let held : is_first_of (to_forward me l.from l.to) l ≡ true = not-false _ (and_false_second _ _ (rw (tag, apart) refl) ok) in
     (forwarding me l.from l.to l held).0
 
 -- ---- all letters of a batch
@@ -79,13 +80,13 @@ pub sent : (me : Local) (to : ℕ) (before letters : List Letter) → me.here < 
 sent me to before [] here ranks tags hops held = tt
 sent me to before (l ∷ letters) here ranks tags hops held =
     let ranks_here = or_false_first _ _ ranks in
-    let tag : is_data l ≡ true = not_false _ (or_false_first _ _ tags) in
+    let tag : is_data l ≡ true = not-false _ (or_false_first _ _ tags) in
     let one : IsSent me.layout me.scheme me.here to l = record {
       here_within = here;
-      to_within = ltb-true _ _ (not_false _ (or_false_first _ _ ranks_here));
-      from_within = ltb-true _ _ (not_false _ (or_false_second _ _ ranks_here));
+      to_within = ltb-true _ _ (not-false _ (or_false_first _ _ ranks_here));
+      from_within = ltb-true _ _ (not-false _ (or_false_second _ _ ranks_here));
       tag = tag;
-      next = eqb-true _ _ (not_false _ (and_false_second _ _ tag (or_false_first _ _ hops)));
+      next = eqb-true _ _ (not-false _ (and_false_second _ _ tag (or_false_first _ _ hops)));
       leaves = leaving (having_put me to before) to l tag (or_false_first _ _ held);
     } in
     (one, sent me to (before ++ l ∷ []) letters here (or_false_second _ _ ranks) (or_false_second _ _ tags) (or_false_second _ _ hops) (or_false_second _ _ held))

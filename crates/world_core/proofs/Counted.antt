@@ -5,13 +5,13 @@ use Rattle.std.proofs.lemmas.Bool.{cases_lt}
 use Rattle.msg_codec.specs.declared.letter.Letter.{Letter}
 use Rattle.world_core.specs.Log.{letters_put, letters_taken}
 use Rattle.world_core.specs.Modest.{IsLawful, IsWorld}
-use Rattle.world_core.specs.Pairs.{is_data, is_of_pair, of_pair, arrived, pair_put}
+use Rattle.world_core.specs.Pairs.{is_data, is_of_pair, of_pair, of_sender, arrived, pair_put}
 use Rattle.world_core.specs.Sound.{IsOnPath}
 use Rattle.world_core.specs.World.{Logs, log_of, local}
 use Rattle.world_core.proofs.Across.{got_prefix, is_sound}
 use Rattle.world_core.proofs.OnPath.{Base, alone, carried_taken}
 use Rattle.world_core.proofs.Only.{all_taken}
-use Rattle.world_core.proofs.Lists.{prefix_length, all_weaker, and_first, and_second}
+use Rattle.world_core.proofs.Lists.{prefix_length, all_weaker, and_first, and_second, every}
 
 longer : {X : Type 0} (x : X) (xs ys : List X) (a b : Bool) → (a ≡ true → b ≡ true) → length xs ≤ length ys → length (cond a (x ∷ xs) xs) ≤ length (cond b (x ∷ ys) ys)
 longer x xs ys true true f le = omega arith
@@ -24,9 +24,9 @@ pub fewer : {X : Type 0} (p q : X → Bool) (xs : List X) → AllByRecursion (λ
 fewer p q [] f = omega arith
 fewer p q (x ∷ xs) f = longer x (filter p xs) (filter q xs) (p x) (q x) f.0 (fewer p q xs f.1)
 
-every : {X : Type 0} (P : X → Type 0) (xs : List X) → ((x : X) → P x) → AllByRecursion P xs
-every P [] f = tt
-every P (x ∷ xs) f = (f x, every P xs f)
+-- a sender has no more letters to one rank than to all
+pub pair_of_sender : (from to : ℕ) (letters : List Letter) → length (of_pair from to letters) ≤ length (of_sender from letters)
+pair_of_sender from to letters = fewer (is_of_pair from to) (λ l. is_data l && nat_eq l.from from) letters (every _ _ (λ l h. and_first _ _ h))
 
 shared : {X : Type 0} (x : X) (xs ys zs : List X) (a b c : Bool) → (a ≡ true → (b ≡ true) ⊎ (c ≡ true)) → length xs ≤ length ys + length zs →
     length (cond a (x ∷ xs) xs) ≤ length (cond b (x ∷ ys) ys) + length (cond c (x ∷ zs) zs)
@@ -81,7 +81,7 @@ senders_below here most xs few (suc n) =
 module _ (world : Logs) (base : Base world) where
   -- a rank puts no more letters to one rank than it puts at all
   pair-own : (s d : ℕ) → length (pair_put s d (log_of world s)) ≤ 2 ^ 56
-  pair-own s d = le_trans (fewer (is_of_pair s d) (λ l. is_data l && nat_eq l.from s) (letters_put (log_of world s)) (every _ _ (λ l h. and_first _ _ h))) (alone world base s).few
+  pair-own s d = le_trans (pair_of_sender s d (letters_put (log_of world s))) (alone world base s).few
 
   few_of_pair : (here s : ℕ) → length (of_pair s here (letters_taken (log_of world here))) ≤ 2 ^ 56
   few_of_pair here s = le_trans (prefix_length _ _ (got_prefix world base s here)) (pair-own s here)

@@ -1,5 +1,5 @@
 -- How many letters of a pair a log of a sound world can have.
-use Rattle.std.proofs.Common.{◌≡◌, ◌≢◌, ℕ, ◌^◌, ◌≤◌, ◌&&◌, ◌⊎◌, Bool, true, false, nat_eq, cond, List, [], ◌∷◌, length, filter, refl, sym, subst, inl, inr, arith, le_trans}
+use Rattle.std.proofs.Common.{◌≡◌, ◌≢◌, ℕ, ◌^◌, ◌≤◌, ◌⊎◌, Bool, true, false, cond, List, [], ◌∷◌, length, filter, refl, sym, subst, inl, inr, arith, le_trans}
 use Rattle.std.specs.Bool.{IsTrue}
 use Rattle.std.specs.List.{AllByRecursion}
 use Rattle.std.proofs.lemmas.Bool.{cases_eq}
@@ -12,20 +12,16 @@ use Rattle.ygm_route.proofs.PathLaws.{crosses_first_hop, crosses_hop, link_end, 
 use Rattle.ygm_route.proofs.Standing.{standing, is_sender, is_destination, is_between as is_middle, is_first, is_second}
 use Rattle.world_core.specs.Log.{letters_put}
 use Rattle.world_core.specs.Modest.{IsWorld}
-use Rattle.world_core.specs.Pairs.{is_data, is_of_pair, own, pair_put, pair_taken}
+use Rattle.world_core.specs.Pairs.{is_of_pair, own, pair_put, pair_taken}
 use Rattle.world_core.specs.Sound.{IsPrefix}
 use Rattle.world_core.specs.World.{Logs, log_of}
 use Rattle.world_core.proofs.Across.{link_carries}
 use Rattle.world_core.proofs.Carried.{IsCarried, IsThird}
-use Rattle.world_core.proofs.Counted.{fewer}
+use Rattle.world_core.proofs.Counted.{pair_of_sender}
 use Rattle.world_core.proofs.Kept.{base_of}
-use Rattle.world_core.proofs.Lists.{all_weaker, and_first, prefix_length, prefix_trans}
+use Rattle.world_core.proofs.Lists.{all_weaker, prefix_length, prefix_trans}
 use Rattle.world_core.proofs.OnPath.{alone, carried_put, pair_of}
 use Rattle.world_core.proofs.Only.{all_put}
-
-every : {X : Type 0} (P : X → Type 0) (xs : List X) → ((x : X) → P x) → AllByRecursion P xs
-every P [] f = tt
-every P (x ∷ xs) f = (f x, every P xs f)
 
 -- none passes a test, or one does and so a claim holds
 pick : {X : Type 0} (Q : Type 0) (b : Bool) (x : X) (ys : List X) → (b ≡ true → Q) → (ys ≡ []) ⊎ Q → (cond b (x ∷ ys) ys ≡ []) ⊎ Q
@@ -77,7 +73,7 @@ module _ (world : Logs) (w : IsWorld world) where
   few_own rank = (alone world (base_of world w) rank).few
 
   few_of_sender : (s d : ℕ) → length (pair_put s d (log_of world s)) ≤ 2 ^ 56
-  few_of_sender s d = le_trans (fewer (is_of_pair s d) (λ l. is_data l && nat_eq l.from s) (letters_put (log_of world s)) (every _ _ (λ l h. and_first _ _ h))) (few_own s)
+  few_of_sender s d = le_trans (pair_of_sender s d (letters_put (log_of world s))) (few_own s)
 
   -- a rank that puts another rank's letter stands between
   stands : (s d r b : ℕ) → s ≢ r → (l : Letter) → IsCarried world.layout world.scheme r b l → is_of_pair s d l ≡ true → Between world.layout world.scheme s d r

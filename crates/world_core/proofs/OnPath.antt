@@ -1,7 +1,7 @@
 -- In honest logs that agree about each link, the letters of a pair stay on the path of that pair.
 use Rattle.std.proofs.Common.{◌≡◌, ◌≢◌, ℕ, zero, suc, ◌+◌, ◌<◌, ◌≤◌, true, false, nat_eq, eqb-true, eq-eqb, List, [], ◌∷◌, length, refl, sym, ap, ◌∙◌, subst, inl, inr, arith}
 use Rattle.std.specs.List.{AllByRecursion}
-use Rattle.std.proofs.lemmas.Bool.{cases_eq, cases_lt}
+use Rattle.std.proofs.lemmas.Bool.{cases_eq, cases_lt, false_from_ne_true, true_from_ne_false}
 use Rattle.std.proofs.lemmas.List.{get_or_past}
 use Rattle.msg_codec.specs.declared.letter.Letter.{Letter}
 use Rattle.ygm_route.specs.declared.scheme.Scheme.{Scheme}
@@ -19,8 +19,8 @@ use Rattle.world_core.specs.Sound.{LinksAgree}
 use Rattle.world_core.specs.World.{Logs, log_of, local}
 use Rattle.world_core.proofs.Alone.{Alone, alone_nil, alone_honest}
 use Rattle.world_core.proofs.Carried.{IsCarried, IsSent, IsThird}
-use Rattle.world_core.proofs.Only.{all_taken, each_put, false_test}
-use Rattle.world_core.proofs.Lists.{prefix_joined, prefix_nil, all_prefix, all_weaker, and_first, and_second, filter_none, none_kept, true_test}
+use Rattle.world_core.proofs.Only.{all_taken, each_put}
+use Rattle.world_core.proofs.Lists.{prefix_joined, prefix_nil, all_prefix, all_weaker, and_first, and_second, filter_none, none_kept}
 
 -- what all else follows from
 pub record Base (world : Logs) : Type 0 where
@@ -82,7 +82,7 @@ module _ (world : Logs) (base : Base world) where
   other_link s d k j other =
       let P : ℕ → Type 0 = λ x. j ≡ hop layout scheme k x in
       all_weaker (IsSent layout scheme k j) (λ l. is_of_pair s d l ≡ false) _
-      (λ l c. false_test (is_of_pair s d l) (λ h. other (sym (subst P (pair_of s d l h).1 c.next)))) ((alone k).carry j)
+      (λ l c. false_from_ne_true (is_of_pair s d l) (λ h. other (sym (subst P (pair_of s d l h).1 c.next)))) ((alone k).carry j)
 
   -- who isn't a rank puts nothing
   no_rank : (s d k j : ℕ) → layout.ranks ≤ k → None_of s d (letters_of (batches_put j (log_of world k)))
@@ -95,7 +95,7 @@ module _ (world : Logs) (base : Base world) where
       t.not_destination (sym (subst P same e) ∙ hop-near layout d d scheme refl)
 
   before_off : (s d k j : ℕ) → AreRanks layout s d → k ≢ d → hop layout scheme k d ≡ j → passes (path layout scheme s d) j ≡ false → passes (path layout scheme s d) k ≡ false
-  before_off s d k j ranks other e off = false_test _ (λ on.
+  before_off s d k j ranks other e off = false_from_ne_true _ (λ on.
       let P : ℕ → Type 0 = λ x. passes (path layout scheme s d) x ≡ true in
       let next : P j = subst P e (link_end layout scheme s d k _ ranks (crosses_hop layout scheme s d k ranks on other)) in
       absurd cc)
@@ -137,7 +137,7 @@ module _ (world : Logs) (base : Base world) where
         crossed = rw c.next (elim (cases_eq l.from a) [
           | inl own ↦ rw (← own) (crosses_first_hop layout scheme l.from l.to ranks)
           | inr other ↦
-              let on = true_test _ (λ h. absurd (let pair = own_pair l c.tag in let none = off ranks h in cc)) in
+              let on = true_from_ne_false _ (λ h. absurd (let pair = own_pair l c.tag in let none = off ranks h in cc)) in
               crosses_hop layout scheme l.from l.to a ranks on (c.leaves other)
         ]);
       }

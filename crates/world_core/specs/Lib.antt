@@ -11,3 +11,4 @@ pub mod Post
 pub mod Plain
 pub mod Desk
 pub mod Worked
+pub use Rattle.rising_counts.specs.Rising

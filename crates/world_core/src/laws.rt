@@ -1,6 +1,6 @@
 //! What keeps a world sound. Each law is the contract of a function that does nothing: a caller that calls
 //! it may rely on it. They speak of logs alone, whatever carries the letters.
-ghost use Rattle.std.specs.Prelude.{◌≡◌, ℕ, List, [], ◌∷◌, None, Some, length, slice_get};
+ghost use Rattle.std.specs.Prelude.{◌≡◌, ◌↔◌, ◌^◌, true, ℕ, List, [], ◌∷◌, None, Some, length, slice_get};
 ghost use Rattle.world_core.specs.Worked.{start, one, having_put};
 ghost use Rattle.world_core.specs.declared.entry.Event.TheVariants.{Put as PutEvent, Take};
 ghost use Rattle.world_core.specs.declared.why.Why.TheVariants.{NothingThere};
@@ -10,9 +10,11 @@ ghost use Rattle.ygm_route.specs.Layout.{IsLayout, Shape};
 ghost use Rattle.world_core.specs.declared.entry.Entry.TheVariants.{Put, Took};
 ghost use Rattle.world_core.specs.Log.{batches_put, batches_taken};
 ghost use Rattle.world_core.specs.Modest.{IsWorld};
-ghost use Rattle.world_core.specs.Rules.{first_broken};
+ghost use Rattle.world_core.specs.Rules.{first_broken, same_letter};
 ghost use Rattle.world_core.specs.Rules.Deed.{Puts};
 ghost use Rattle.world_core.specs.World.{Logs, fresh, gaining, local, log_of, refusal, after};
+
+use crate::Limits;
 
 /// A world in which nothing happened is sound.
 #[tactic(auto, using(crate::proofs::Kept::fresh_is_world))]
@@ -33,6 +35,20 @@ pub fn taking_the_next_batch_keeps_a_sound_world()
     ensures { (world : Logs) (from to : ℕ) (letters : List Letter) → IsWorld world →
         slice_get (batches_put to (log_of world from)) (length (batches_taken from (log_of world to))) ≡ Some letters →
         IsWorld (gaining world to (Took from letters)) }
+{}
+
+/// What `Limits::FULL` is.
+pub fn the_greatest_limits() -> Limits
+    ensures letters { result.letters ≡ 2 ^ 56 }
+    ensures rounds { result.rounds ≡ 2 ^ 56 }
+    ensures batches { result.batches ≡ 2 ^ 62 }
+{
+    Limits::FULL
+}
+
+/// Letters are tried as the same exactly where they are equal.
+pub fn letters_are_the_same_where_they_are_equal()
+    ensures { (a b : Letter) → same_letter a b ≡ true ↔ a ≡ b }
 {}
 
 /// A worked case of the definitions: of two takes after one put, the second is refused.

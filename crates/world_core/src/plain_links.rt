@@ -4,6 +4,7 @@ ghost use Rattle.std.specs.List.{list_any};
 ghost use Rattle.world_core.specs.Modest.{IsModest, IsWorld};
 ghost use Rattle.world_core.specs.Plain.{Plain, fresh_links, is_full, is_stopped, told_by};
 ghost use Rattle.world_core.specs.Post.{FoundFull, ServesAll, SomeRaised, is_full_in, link_in, local_at, SamePost, SameStops, SameFulls, SameMisses, batch_back, FullsAfter, MissesAfter, HaltsAfter, log_after_put, log_after_take};
+ghost use Rattle.rising_counts.specs.Rising.{next_count};
 ghost use Rattle.world_core.specs.Rules.{first_broken};
 ghost use Rattle.world_core.specs.Rules.Deed.{Puts};
 ghost use Rattle.world_core.specs.World.{link};
@@ -106,6 +107,7 @@ impl Post for PlainLinks {
         ensures sees_full { FoundFull result → IsTrue ((told_by self.old).serves to) → IsTrue (is_full_in (told_by self.old) here to) }
         ensures full_is_told { IsTrue (is_full self.old here to) → FoundFull result }
         ensures fulls { FullsAfter to (told_by self.old) (told_by self.new) result }
+        ensures counts_full { FoundFull result → (told_by self.new).fulls to ≡ next_count ((told_by self.old).fulls to) }
         ensures misses { SameMisses (told_by self.old) (told_by self.new) }
         ensures halts { (told_by self.new).halts ≡ (told_by self.old).halts }
         ensures stops { SameStops (told_by self.old) (told_by self.new) }
@@ -144,6 +146,7 @@ impl Post for PlainLinks {
         ensures none { IsNone result ↔ (link self.old.world from here ≡ []) }
         ensures fulls { SameFulls (told_by self.old) (told_by self.new) }
         ensures misses { MissesAfter from (told_by self.old) (told_by self.new) result }
+        ensures counts_miss { IsNone result → (told_by self.new).misses from ≡ next_count ((told_by self.old).misses from) }
         ensures halts { (told_by self.new).halts ≡ (told_by self.old).halts }
         ensures stops { SameStops (told_by self.old) (told_by self.new) }
         ensures same { SamePost here (told_by self.old) (told_by self.new) }
@@ -183,6 +186,7 @@ impl Post for PlainLinks {
         ensures sees_raised { (rank : ℕ) → IsTrue ((told_by self.old).serves rank) → (told_by self.old).raised rank ≡ true → result ≡ true }
         ensures sees_stop { result ≡ true → ServesAll (told_by self.old) → SomeRaised (told_by self.old) }
         ensures halts { HaltsAfter (told_by self.old) (told_by self.new) result }
+        ensures counts_halt { result ≡ true → (told_by self.new).halts ≡ next_count (told_by self.old).halts }
         ensures log { (told_by self.new).log here ≡ (told_by self.old).log here }
         ensures fulls { SameFulls (told_by self.old) (told_by self.new) }
         ensures misses { SameMisses (told_by self.old) (told_by self.new) }

@@ -1,15 +1,12 @@
 -- What lies under a name after an addition.
-use Rattle.std.proofs.Common.{◌≡◌, ◌≢◌, ℕ, Bool, true, false, cond, List, [], ◌∷◌, ◌++◌, Some, reverse, refl, sym, ap}
+use Rattle.std.proofs.Common.{◌≡◌, ◌≢◌, ℕ, true, false, cond, List, [], ◌∷◌, ◌++◌, Some, reverse, refl, sym, ap}
+use Rattle.std.proofs.lemmas.Bool.{false_from_ne_true}
 use Rattle.std.proofs.lemmas.List.{reverse-append}
 use Rattle.std.proofs.lemmas.Slice.Eq.{bytes_eq-Decides}
 use Rattle.std.specs.Str.{bytes_eq}
 use Rattle.std.specs.Option.{option_map}
 use Rattle.std.specs.List.{find}
 use Rattle.ygm_io.specs.Named.{last_named}
-
-false_where : (b : Bool) → (b ≡ true → ⊥) → b ≡ false
-false_where true not = absurd (not refl)
-false_where false _ = refl
 
 module _ {T : Type 0} (added : List (List ℕ × T)) (name : List ℕ) (value : T) where
   first_tested : (other : List ℕ) → last_named other (added ++ (name, value) ∷ []) ≡ option_map (λ entry. entry.1) (cond (bytes_eq name other) (Some (name, value)) (find (λ entry. bytes_eq entry.0 other) (reverse added)))
@@ -23,5 +20,5 @@ module _ {T : Type 0} (added : List (List ℕ × T)) (name : List ℕ) (value : 
   -- another name keeps what it had
   pub last_other : (other : List ℕ) → other ≢ name → last_named other (added ++ (name, value) ∷ []) ≡ last_named other added
   last_other other differs =
-      let other_name : bytes_eq name other ≡ false = false_where (bytes_eq name other) (λ same. differs (sym ((bytes_eq-Decides name other).0 same))) in
+      let other_name : bytes_eq name other ≡ false = false_from_ne_true (bytes_eq name other) (λ same. differs (sym ((bytes_eq-Decides name other).0 same))) in
       rw (first_tested other, other_name) refl

@@ -1,4 +1,4 @@
 pub mod Content
-pub mod Faults
+pub use Rattle.rising_counts.specs.Rising
 pub mod Named
 pub mod Plan

@@ -1,6 +1,6 @@
 -- Which calls of an object are to fail.
 use Rattle.std.specs.Prelude.{ℕ, List, Contains}
-use Rattle.ygm_io.specs.Faults.{next_count}
+use Rattle.rising_counts.specs.Rising.{next_count}
 
 -- the numbers of the calls that are to fail, how many calls there were, and how often one failed
 pub record Plan : Type 0 where

@@ -1,6 +1,6 @@
 //! What sources are opened from, by name.
 ghost use Rattle.std.specs.Prelude.{◌≡◌, ◌≤◌, List, ℕ, Option, IfOk, OnOk, IsErrOf};
-ghost use Rattle.ygm_io.specs.Faults.{Rose};
+ghost use Rattle.rising_counts.specs.Rising.{Rose};
 ghost use Rattle.ygm_io.specs.declared.files.OpenFailed.TheVariants.{NoMemory};
 
 use crate::Source;

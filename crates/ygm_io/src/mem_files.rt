@@ -1,6 +1,6 @@
 //! Files in memory.
 ghost use Rattle.std.specs.Prelude.{◌≡◌, ◌≤◌, ◌⊎◌, ◌++◌, [], ◌∷◌, List, ℕ, None, Some, IsSomeAnd, IfOk, OnOk, OnErr, IsErrOf};
-ghost use Rattle.ygm_io.specs.Faults.{Rose};
+ghost use Rattle.rising_counts.specs.Rising.{Rose};
 ghost use Rattle.ygm_io.specs.Named.{File, last_named, bytes_named};
 ghost use Rattle.ygm_io.specs.Plan.{fresh_plan, after_call, after_fault, NextFails};
 

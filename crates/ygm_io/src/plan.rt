@@ -1,6 +1,6 @@
 //! Which calls of an object are to fail.
 ghost use Rattle.std.specs.Prelude.{◌≡◌, ◌≤◌, ◌↔◌, ◌++◌, [], ◌∷◌, IfOk, OnOk, OnErr, IsTrue};
-ghost use Rattle.ygm_io.specs.Faults.{next_count};
+ghost use Rattle.rising_counts.specs.Rising.{next_count};
 ghost use Rattle.ygm_io.specs.Plan.{Plan, fresh_plan, NextFails};
 
 use std::alloc::{AllocError, Global};

@@ -1,7 +1,7 @@
 //! What bytes are written to.
 ghost use Rattle.std.specs.Prelude.{◌≡◌, ◌<◌, ◌≤◌, List, ℕ, length, take, Option, IfOk, OnOk, OnErr};
 ghost use Rattle.ygm_io.specs.Content.{AppendedTo};
-ghost use Rattle.ygm_io.specs.Faults.{Rose};
+ghost use Rattle.rising_counts.specs.Rising.{Rose};
 
 use crate::Failed;
 

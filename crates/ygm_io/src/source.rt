@@ -1,7 +1,7 @@
 //! What bytes are read from.
 ghost use Rattle.std.specs.Prelude.{◌≡◌, ◌<◌, ◌≤◌, List, ℕ, length, take, Option, IfOk, OnOk, OnErr};
 ghost use Rattle.ygm_io.specs.Content.{TakenFrom, NothingLeft};
-ghost use Rattle.ygm_io.specs.Faults.{Rose};
+ghost use Rattle.rising_counts.specs.Rising.{Rose};
 
 use thiserror::Error;
 

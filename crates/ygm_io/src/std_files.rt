@@ -1,5 +1,7 @@
 //! The files of the system.
-ghost use Rattle.std.specs.Prelude.{◌≡◌, None};
+ghost use Rattle.std.specs.Prelude.{◌≡◌, ◌≤◌, None, IfOk, IsErrOf, OnOk};
+ghost use Rattle.rising_counts.specs.Rising.{Rose, next_count};
+ghost use Rattle.ygm_io.specs.declared.files.OpenFailed.{OpenFailed};
 
 use crate::{Files, OpenFailed, StdSource};
 use std::fs;
@@ -42,7 +44,14 @@ where
 
     /// Opens a file for reading. An open that a signal interrupts is tried again, and one to which the
     /// system refuses memory is `NoMemory`.
-    fn open_named(&mut self, name: &str) -> Result<StdSource<R::File>, OpenFailed> {
+    fn open_named(&mut self, name: &str) -> Result<StdSource<R::File>, OpenFailed>
+        ensures fresh { IfOk result (λ source. source.faults ≡ 0) }
+        ensures stands { OnOk result (self.new.faults ≡ self.old.faults) }
+        ensures stands_without_memory { IsErrOf result OpenFailed.NoMemory → self.new.faults ≡ self.old.faults }
+        ensures cause { IsErrOf result OpenFailed.Failed → Rose self.old.faults self.new.faults }
+        ensures never_falls { self.old.faults ≤ self.new.faults }
+        ensures counted_fault { IsErrOf result OpenFailed.Failed → self.new.faults ≡ next_count self.old.faults }
+    {
         for _ in 0..u64::MAX {
             match fs::open(&self.runtime, name) {
                 Ok(file) => return Ok(StdSource::new(file)),

@@ -1,7 +1,7 @@
 //! A sink over a writer of std.
 ghost use Rattle.std.specs.Prelude.{◌≡◌, ◌<◌, ◌≤◌, length, None, IfOk, OnOk, OnErr};
 ghost use Rattle.std.specs.Io.KnownBytes.{WriteAppends};
-ghost use Rattle.ygm_io.specs.Faults.{Rose};
+ghost use Rattle.rising_counts.specs.Rising.{Rose, next_count};
 
 use crate::{Failed, Sink};
 use std::io::{ErrorKind, Write};
@@ -48,6 +48,7 @@ impl<W: Write> Sink for StdSink<W> {
         ensures stands { OnOk result (self.new.faults ≡ self.old.faults) }
         ensures cause { OnErr result (Rose self.old.faults self.new.faults) }
         ensures never_falls { self.old.faults ≤ self.new.faults }
+        ensures counted_fault { OnErr result (self.new.faults ≡ next_count self.old.faults) }
         // where the writer's bytes are known, they are passed on
         ensures passed_on { WriteAppends (W.contents self.old.writer) (W.contents self.new.writer) result bytes.now }
     {

@@ -1,7 +1,7 @@
 //! A source over a reader of std.
 ghost use Rattle.std.specs.Prelude.{◌≡◌, ◌≤◌, length, None, IfOk, OnOk, OnErr};
 ghost use Rattle.std.specs.Io.KnownBytes.{ReadConsumes};
-ghost use Rattle.ygm_io.specs.Faults.{Rose};
+ghost use Rattle.rising_counts.specs.Rising.{Rose, next_count};
 
 use crate::{Failed, Source};
 use std::io::{ErrorKind, Read};
@@ -43,6 +43,7 @@ impl<R: Read> Source for StdSource<R> {
         ensures stands { OnOk result (self.new.faults ≡ self.old.faults) }
         ensures cause { OnErr result (Rose self.old.faults self.new.faults) }
         ensures never_falls { self.old.faults ≤ self.new.faults }
+        ensures counted_fault { OnErr result (self.new.faults ≡ next_count self.old.faults) }
         // where the reader's bytes are known, they are passed on
         ensures passed_on { ReadConsumes (R.remaining self.old.reader) (R.remaining self.new.reader) result into.new }
     {

@@ -66,12 +66,35 @@ fn all_is_written_or_the_front(rt: HostRuntime) -> Result<(), Fail> {
     Ok(())
 }
 
+// Takes up to half a million bytes at each call, and keeps how many it was offered.
+#[derive(Drop)]
+struct Offered {
+    lengths: Vec<usize>,
+}
+
+impl Write for Offered {
+    fn write(&mut self, bytes: &[u8]) -> io::Result<usize> {
+        self.lengths.push(bytes.len())?;
+        Ok(bytes.len().min(500_000))
+    }
+
+    fn flush(&mut self) -> io::Result<()> {
+        Ok(())
+    }
+}
+
 #[test]
 fn each_write_is_offered_all_that_is_left(rt: HostRuntime) -> Result<(), Fail> {
-    let mut sink = MemSink::new(rt.alloc(), &[2], 3)?;
+    let alloc = rt.alloc();
+    let text = Vec::from_elem(alloc, b'a', 1_200_000)?;
+    let mut offered = Offered {
+        lengths: Vec::new(alloc),
+    };
+    let mut sink = StdSink::new(&mut offered);
+    assert_eq!(rt; write_all(&mut sink, &text), Ok(()));
     assert_eq!(rt;
-        write_all(&mut sink, b"abcdefgh"),
-        Err(WriteFault { written: 6 })
+        offered.lengths.as_slice(),
+        [1_200_000, 700_000, 200_000].as_slice()
     );
     Ok(())
 }

@@ -1,7 +1,7 @@
 //! Writing bytes to their end.
 ghost use Rattle.std.specs.Prelude.{◌≡◌, ◌<◌, ◌≤◌, length, take, IfErr, OnOk, OnErr};
 ghost use Rattle.ygm_io.specs.Content.{AppendedTo};
-ghost use Rattle.ygm_io.specs.Faults.{Rose};
+ghost use Rattle.rising_counts.specs.Rising.{Rose};
 
 use crate::{Failed, Sink};
 use thiserror::Error;

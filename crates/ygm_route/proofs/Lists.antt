@@ -1,37 +1,22 @@
 -- What a path passes and crosses, rank by rank.
-use Rattle.std.proofs.Common.{◌≡◌, ℕ, Bool, true, false, ◌||◌, ◌&&◌, nat_eq, eq-eqb, List, [], ◌∷◌, ap, ◌∙◌, refl, arith, inl, inr, ◌⊎◌}
-use Rattle.std.proofs.lemmas.Bool.Decides.{nat_tests}
+use Rattle.std.proofs.Common.{◌≡◌, ℕ, Bool, true, false, ◌||◌, ◌&&◌, nat_eq, eq-eqb, List, [], ◌∷◌, ap, ◌∙◌, inl, inr, ◌⊎◌}
+use Rattle.std.proofs.lemmas.Bool.{and_parts, eqb-true, or_cases, or_right}
 use Rattle.ygm_route.specs.Path.{passes, crosses}
-
-either : (x y : Bool) → (x || y) ≡ true → (x ≡ true) ⊎ (y ≡ true)
-either true y h = inl refl
-either false y h = inr h
-
-later : (x y : Bool) → y ≡ true → (x || y) ≡ true
-later true y h = refl
-later false y h = h
-
-both : (x y : Bool) → (x && y) ≡ true → (x ≡ true) × (y ≡ true)
-both true y h = (refl, h)
-both false y h = cc
-
-equal : (a b : ℕ) → nat_eq a b ≡ true → a ≡ b
-equal a b h = grind (arith, nat_tests)
 
 -- a rank of the path is its first or one of the rest
 pub passes-cons : (x : ℕ) (xs : List ℕ) (r : ℕ) → passes (x ∷ xs) r ≡ true → (x ≡ r) ⊎ (passes xs r ≡ true)
-passes-cons x xs r h = elim (either (nat_eq x r) (passes xs r) h) [ inl e ↦ inl (equal x r e) | inr t ↦ inr t ]
+passes-cons x xs r h = elim (or_cases (nat_eq x r) (passes xs r) h) [ inl e ↦ inl (eqb-true x r e) | inr t ↦ inr t ]
 
 pub passes_first : (x : ℕ) (xs : List ℕ) (r : ℕ) → x ≡ r → passes (x ∷ xs) r ≡ true
 passes_first x xs r e = ap (λ b. b || passes xs r) (eq-eqb x r e)
 
 pub passes_later : (x : ℕ) (xs : List ℕ) (r : ℕ) → passes xs r ≡ true → passes (x ∷ xs) r ≡ true
-passes_later x xs r h = later (nat_eq x r) (passes xs r) h
+passes_later x xs r h = or_right (nat_eq x r) (passes xs r) h
 
 -- a link of the path is its first or one of the rest
 pub crosses-cons : (x y : ℕ) (rest : List ℕ) (a b : ℕ) → crosses (x ∷ y ∷ rest) a b ≡ true → ((x ≡ a) × (y ≡ b)) ⊎ (crosses (y ∷ rest) a b ≡ true)
-crosses-cons x y rest a b h = elim (either (nat_eq x a && nat_eq y b) (crosses (y ∷ rest) a b) h) [
-  | inl e ↦ (let p : (nat_eq x a ≡ true) × (nat_eq y b ≡ true) = both _ _ e in inl (equal x a p.0, equal y b p.1))
+crosses-cons x y rest a b h = elim (or_cases (nat_eq x a && nat_eq y b) (crosses (y ∷ rest) a b) h) [
+  | inl e ↦ (let p : (nat_eq x a ≡ true) × (nat_eq y b ≡ true) = and_parts _ _ e in inl (eqb-true x a p.0, eqb-true y b p.1))
   | inr t ↦ inr t
 ]
 
@@ -42,7 +27,7 @@ crosses_first x y rest a b e f =
     ap (λ t. (t && nat_eq y b) || crosses (y ∷ rest) a b) p ∙ ap (λ t. t || crosses (y ∷ rest) a b) q
 
 pub crosses_later : (x y : ℕ) (rest : List ℕ) (a b : ℕ) → crosses (y ∷ rest) a b ≡ true → crosses (x ∷ y ∷ rest) a b ≡ true
-crosses_later x y rest a b h = later (nat_eq x a && nat_eq y b) (crosses (y ∷ rest) a b) h
+crosses_later x y rest a b h = or_right (nat_eq x a && nat_eq y b) (crosses (y ∷ rest) a b) h
 
 module _ (r : ℕ) where
   pub one_of_two : (s d : ℕ) → passes (s ∷ d ∷ []) r ≡ true → (s ≡ r) ⊎ (d ≡ r)

@@ -5,7 +5,6 @@ use Rattle.std.proofs.lemmas.List.Elements.{filter-append}
 use Rattle.std.proofs.lemmas.Bool.{cases_eq, cases_lt, eq-eqb, ne_eqb}
 use Rattle.std.proofs.lemmas.Option.{slice_get_within}
 use Rattle.std.specs.List.{AllByRecursion, filter, list_any}
-use Rattle.msg_codec.specs.declared.letter.Letter.{Letter}
 use Rattle.ygm_route.specs.declared.scheme.Scheme.TheVariants.{Direct}
 use Rattle.ygm_route.specs.Layout.{Shape}
 use Rattle.world_core.specs.declared.entry.Entry.{Entry}
@@ -18,18 +17,21 @@ use Rattle.world_core.proofs.Alone.{slice_get_end, slice_get_left}
 use Rattle.comm_rank.specs.Fold.{handed_from}
 use Rattle.comm_rank.specs.Rank.{Rank, fresh_rank, ran_at, ran_from, sent_to}
 use Rattle.comm_rank.specs.Settled.{AreRanks, AreSameRanks, HasAdvanced, HasRun}
+use Rattle.comm_rank.proofs.Advancing.{item_there, same_item}
+use Rattle.comm_rank.proofs.Moving.{item_kept, item_set}
 use Rattle.comm_rank.proofs.Sending.{agrees_fresh, no_letters}
 use Rattle.comm_rank.proofs.Settling.{ran_begins_always}
 use Rattle.comm_rank.proofs.Stops.{same_stopped}
 use Rattle.counting_set.specs.Counting.{Counts, counting_apply, add_letter}
 use Rattle.counting_set.specs.Owner.{owner_of_key}
+use Rattle.counting_set.proofs.Sums.{handed-none}
 use Rattle.ygm_run.specs.Carried.{AreFresh, AreReady, Carried, IsQuietFrom, letters_of, sent_counts, with_line}
-use Rattle.ygm_run.proofs.Places.{only_one, set_other, set_same, there_too}
 
--- a counting set sends nothing
-nothing_handed : (here n : ℕ) (c : Counts) (ls : List Letter) → handed_from counting_apply here n c ls ≡ []
-nothing_handed here n c [] = refl
-nothing_handed here n c (l ∷ ls) = nothing_handed here n (counting_apply c here n l).0 ls
+-- what stands at the place that was changed
+pub placed : {X : Type 0} (xs : List X) (k r : ℕ) (x y : X) → r ≡ k → slice_get (set xs k y) r ≡ Some x → y ≡ x
+placed xs k r x y is at =
+    let there = subst (λ i. slice_get (set xs k y) i ≡ Some x) is at in
+    same_item (set xs k y) k y x (item_set xs k y (omega (arith, slice_get_within (set xs k y) k x there, length-set xs k y))) there
 
 -- ---- the start
 
@@ -79,7 +81,7 @@ fresh_more layout comms me fresh last rank found e = elim (cases_lt rank (length
   | inr le ↦
       let within = slice_get_within (comms ++ me ∷ []) rank found e in
       let here : rank ≡ length comms = omega (arith, le, within, length-append comms (me ∷ [])) in
-      let same : me ≡ found = only_one (comms ++ me ∷ []) (length comms) me found (slice_get_end comms me) (subst (λ k. slice_get (comms ++ me ∷ []) k ≡ Some found) here e) in
+      let same : me ≡ found = same_item (comms ++ me ∷ []) (length comms) me found (slice_get_end comms me) (subst (λ k. slice_get (comms ++ me ∷ []) k ≡ Some found) here e) in
       sym same ∙ last ∙ ap (λ k. fresh_rank layout Direct k (2 ^ 56) []) (sym here)
 ]
 
@@ -134,17 +136,17 @@ module _ (own : ℕ → List (List ℕ)) (n s : ℕ) (comms : List (Rank Counts)
     all = length-set comms s now ∙ c.all;
     counted = λ r m e. elim (cases_eq r s) [
       | inl x ↦
-          let is : now ≡ m = set_same comms s m now (subst (λ i. slice_get (set comms s now) i ≡ Some m) x e) in
+          let is : now ≡ m = placed comms s r m now x e in
           let size : length (with_line own s line r) ≡ length (own s) + 1 = ap length (with_line-same own s r line x) ∙ length-append (own r) (line ∷ []) ∙ ap (λ i. length (own i) + 1) x in
           omega (arith, ap (λ (i : Rank Counts). i.sent_count) is, one.counted, c.counted s me at, size)
-      | inr x ↦ c.counted r m (sym (set_other comms s r now x) ∙ e) ∙ ap length (sym (with_line-other own s r line x))
+      | inr x ↦ c.counted r m (sym (item_kept comms s r now x) ∙ e) ∙ ap length (sym (with_line-other own s r line x))
     ];
     sent = λ r to m t e. elim (cases_eq r s) [
       | inl x ↦
-          let is : now ≡ m = set_same comms s m now (subst (λ i. slice_get (set comms s now) i ≡ Some m) x e) in
+          let is : now ≡ m = placed comms s r m now x e in
           let here : sent_to m (log_of links.world s) to ≡ letters_of n s to (own s ++ line ∷ []) = subst (λ (i : Rank Counts). sent_to i (log_of links.world s) to ≡ letters_of n s to (own s ++ line ∷ [])) is (letters_more to t) in
           subst (λ i. sent_to m (log_of links.world i) to ≡ letters_of n i to (with_line own s line i)) (sym x) (here ∙ ap (letters_of n s to) (sym (with_line-same own s s line refl)))
-      | inr x ↦ c.sent r to m t (sym (set_other comms s r now x) ∙ e) ∙ ap (letters_of n r to) (sym (with_line-other own s r line x))
+      | inr x ↦ c.sent r to m t (sym (item_kept comms s r now x) ∙ e) ∙ ap (letters_of n r to) (sym (with_line-other own s r line x))
     ];
     short = λ r. elim (cases_eq r s) [
       | inl x ↦ subst (AllByRecursion (λ l. length l ≤ 1000000)) (sym (with_line-same own s r line x)) (All-more (λ l. length l ≤ 1000000) (own r) line (c.short r) fits)
@@ -161,23 +163,27 @@ module _ (own : ℕ → List (List ℕ)) (n s : ℕ) (comms : List (Rank Counts)
 -- ---- letters ran
 
 module _ (comms after : List (Rank Counts)) (old new : Plain) (same : length after ≡ length comms) (advanced : (rank : ℕ) → HasAdvanced counting_apply comms after old new rank) where
+  -- a rank as it was before
+  was : (rank : ℕ) (a : Rank Counts) → slice_get after rank ≡ Some a → (b : Rank Counts) × (slice_get comms rank ≡ Some b)
+  was rank a e = (_, item_there after comms rank a e (sym same))
+
   -- a rank has sent what it had sent
   pub sends_none : (rank to : ℕ) (b a : Rank Counts) → slice_get comms rank ≡ Some b → slice_get after rank ≡ Some a → sent_to a (log_of new.world rank) to ≡ sent_to b (log_of old.world rank) to
   sends_none rank to b a before now =
       let ran = advanced rank b a before now in
-      ran.1.sent to ∙ ap (λ w. sent_to b (log_of old.world rank) to ++ of_pair b.here to w) (nothing_handed b.here b.layout.ranks b.contents ran.0) ∙ append-nil _
+      ran.1.sent to ∙ ap (λ w. sent_to b (log_of old.world rank) to ++ of_pair b.here to w) (handed-none b.here b.layout.ranks b.contents ran.0) ∙ append-nil _
 
   pub counts_none : (rank : ℕ) (b a : Rank Counts) → slice_get comms rank ≡ Some b → slice_get after rank ≡ Some a → a.sent_count ≡ b.sent_count
   counts_none rank b a before now =
       let ran = advanced rank b a before now in
-      let none : length (handed_from counting_apply b.here b.layout.ranks b.contents ran.0) ≡ 0 = ap length (nothing_handed b.here b.layout.ranks b.contents ran.0) in
+      let none : length (handed_from counting_apply b.here b.layout.ranks b.contents ran.0) ≡ 0 = ap length (handed-none b.here b.layout.ranks b.contents ran.0) in
       omega (arith, ran.1.sent_count, none)
 
   pub carried_settled : (own : ℕ → List (List ℕ)) (n : ℕ) → Carried own n comms old → Carried own n after new
   carried_settled own n c = record {
     all = same ∙ c.all;
-    counted = λ r a e. let b = there_too after comms r a e (sym same) in counts_none r b.0 a b.1 e ∙ c.counted r b.0 b.1;
-    sent = λ r to a t e. let b = there_too after comms r a e (sym same) in sends_none r to b.0 a b.1 e ∙ c.sent r to b.0 t b.1;
+    counted = λ r a e. let b = was r a e in counts_none r b.0 a b.1 e ∙ c.counted r b.0 b.1;
+    sent = λ r to a t e. let b = was r a e in sends_none r to b.0 a b.1 e ∙ c.sent r to b.0 t b.1;
     short = c.short;
     few = c.few;
   }
@@ -185,7 +191,7 @@ module _ (comms after : List (Rank Counts)) (old new : Plain) (same : length aft
   pub ready_settled : AreReady comms old → AreSameRanks comms after → AreRanks counting_apply (λ _. []) after new → SameStops (told_by old) (told_by new) → AreReady after new
   ready_settled ready ranks now stops = record {
     ranks = now;
-    most = λ r a e. let b = there_too after comms r a e (sym same) in (ranks r b.0 a b.1 e).most ∙ ready.most r b.0 b.1;
+    most = λ r a e. let b = was r a e in (ranks r b.0 a b.1 e).most ∙ ready.most r b.0 b.1;
     calm = same_stopped old new stops ∙ ready.calm;
   }
 
@@ -209,15 +215,15 @@ module _ (comms after : List (Rank Counts)) (old new : Plain) (same : length aft
   -- the caller of a weak barrier is quiet afterwards
   pub caller_quiet : (caller : ℕ) → IsSound new.world → AreRanks counting_apply (λ _. []) after new → HasRun comms after old new caller → IsQuietFrom after new caller
   caller_quiet caller sound ranks ran to sender me f t =
-      let b = there_too after comms caller sender f (sym same) in
+      let b = was caller sender f in
       all_ran sound ranks caller to sender me f t
       (subst (λ w. IsPrefix w (ran_from me (log_of new.world to) caller)) (sym (sends_none caller to b.0 sender b.1 f)) (ran to b.0 me b.1 t))
 
   -- what was quiet stays quiet
   pub stays_quiet : (from : ℕ) → IsSound new.world → AreRanks counting_apply (λ _. []) after new → AreRanks counting_apply (λ _. []) comms old → IsQuietFrom comms old from → IsQuietFrom after new from
   stays_quiet from sound ranks before quiet to sender me f t =
-      let b = there_too after comms from sender f (sym same) in
-      let m = there_too after comms to me t (sym same) in
+      let b = was from sender f in
+      let m = was to me t in
       let ran = advanced to m.0 me m.1 t in
       let one_here : m.0.here ≡ me.here = (before.each to m.0 m.1).here ∙ sym (ranks.each to me t).here in
       let more : ran_from m.0 (log_of old.world to) from ++ of_pair from me.here ran.0 ≡ ran_from me (log_of new.world to) from =

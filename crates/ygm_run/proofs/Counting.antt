@@ -1,6 +1,6 @@
 -- How often an item stands among lines.
-use Rattle.std.proofs.Common.{◌≡◌, ℕ, ◌+◌, ◌<◌, ◌≤◌, ◌⊎◌, List, [], ◌∷◌, ◌++◌, length, Contains, IsPermutation, bytes_eq, cond, Bool, true, false, inl, inr, refl, sym, ap, ◌∙◌, subst, arith, ⊎_elim, sum_by}
-use Rattle.std.proofs.lemmas.List.Sums.{sum_by-append, sum_by-cons, count_by-le-length}
+use Rattle.std.proofs.Common.{◌≡◌, ℕ, ◌+◌, ◌<◌, ◌⊎◌, List, [], ◌∷◌, ◌++◌, Contains, IsPermutation, bytes_eq, cond, Bool, true, false, inl, inr, refl, sym, ap, ◌∙◌, subst, arith, ⊎_elim, sum_by}
+use Rattle.std.proofs.lemmas.List.Sums.{sum_by-append, sum_by-cons}
 use Rattle.std.proofs.lemmas.List.Sorted.{sum_by-IsPermutation}
 use Rattle.std.proofs.lemmas.Slice.Eq.{bytes_eq-Decides}
 use Rattle.ygm_run.specs.Tally.{all_lines, times}
@@ -21,9 +21,6 @@ pub times-all_lines : (item : List ℕ) (files : List (List (List ℕ))) → tim
 times-all_lines item [] = refl
 times-all_lines item (file ∷ files) =
     times-append item file (all_lines files) ∙ ap (λ rest. times item file + rest) (times-all_lines item files) ∙ sym (sum_by-cons (times item) file files)
-
-pub times-le-length : (item : List ℕ) (lines : List (List ℕ)) → times item lines ≤ length lines
-times-le-length item lines = count_by-le-length (bytes_eq item) lines
 
 pub times-IsPermutation : (item : List ℕ) (lines others : List (List ℕ)) → IsPermutation lines others → times item others ≡ times item lines
 times-IsPermutation item lines others h = sum_by-IsPermutation (one_if_same item) lines others h

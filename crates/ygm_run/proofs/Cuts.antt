@@ -1,10 +1,11 @@
 -- Where the raw lines of bytes are cut.
-use Rattle.std.proofs.Common.{◌≡◌, ◌≢◌, ◌+◌, ◌<◌, ◌≤◌, ℕ, eqb, List, [], ◌∷◌, ◌++◌, length, false, cond, Some, refl, ap, ◌∙◌, arith, ⊎_elim}
+use Rattle.std.proofs.Common.{◌≡◌, ◌≢◌, ◌+◌, ◌<◌, ◌≤◌, ℕ, eqb, List, [], ◌∷◌, ◌++◌, length, Bool, true, false, cond, Some, refl, ap, ◌∙◌, arith, ⊎_elim}
 use Rattle.std.proofs.lemmas.List.Elements.{All-head, All-tail}
+use Rattle.std.proofs.lemmas.List.Sums.{sum_by-append, sum_by-cons}
 use Rattle.std.proofs.lemmas.Bool.{lt-ltb}
 use Rattle.std.proofs.lemmas.Bool.Decides.{eqb_tells}
 use Rattle.std.specs.Option.{option_map}
-use Rattle.ygm_run.specs.Lines.{raw_lines, onto_first, LacksLf, StartsTooLong, first_too_long, max_line}
+use Rattle.ygm_run.specs.Lines.{raw_lines, onto_first, ended_lines, LacksLf, StartsTooLong, first_too_long, max_line}
 
 not_lf : (byte : ℕ) → byte ≢ 10 → eqb byte 10 ≡ false
 not_lf byte h = ⊎_elim (λ t. absurd (h t.1)) (λ f. f.0) (eqb_tells byte 10)
@@ -57,3 +58,38 @@ pub starts_too_long : (raw rest : List ℕ) → LacksLf raw → max_line < lengt
 starts_too_long raw rest h long =
     let front = first_len-front raw rest h in
     first_is_too_long (raw_lines (raw ++ rest)) (omega arith)
+
+-- 1 where a line ends
+one_at_lf : ℕ → ℕ
+one_at_lf byte = cond (eqb byte 10) 1 0
+
+ended_lines-cons : (byte : ℕ) (bytes : List ℕ) → ended_lines (byte ∷ bytes) ≡ one_at_lf byte + ended_lines bytes
+unfolding one_at_lf
+ended_lines-cons byte bytes = sum_by-cons (λ b. cond (eqb b 10) 1 0) byte bytes
+
+-- in bytes with no LF no line ends
+pub ended_lines-none : (bytes : List ℕ) → LacksLf bytes → ended_lines bytes ≡ 0
+unfolding one_at_lf
+ended_lines-none [] h = refl
+ended_lines-none (byte ∷ bytes) h =
+    let first : one_at_lf byte ≡ 0 = ap (λ b. cond b 1 0) (not_lf byte (All-head (λ b. b ≢ 10) byte bytes h)) in
+    omega (arith, ended_lines-cons byte bytes, first, ended_lines-none bytes (All-tail (λ b. b ≢ 10) byte bytes h))
+
+pub ended_lines-append : (bytes more : List ℕ) → ended_lines (bytes ++ more) ≡ ended_lines bytes + ended_lines more
+ended_lines-append bytes more = sum_by-append (λ b. cond (eqb b 10) 1 0) bytes more
+
+lines_onto_first : (byte : ℕ) (lines : List (List ℕ)) → length lines ≤ length (onto_first byte lines)
+lines_onto_first byte [] = omega arith
+lines_onto_first byte (line ∷ lines) = omega arith
+
+-- a line that ends is a line
+pub ended_are_lines : (bytes : List ℕ) → ended_lines bytes ≤ length (raw_lines bytes)
+unfolding one_at_lf
+ended_are_lines [] = omega arith
+ended_are_lines (byte ∷ bytes) =
+    let e = ended_lines-cons byte bytes in
+    let more = by_test (eqb byte 10) (ended_are_lines bytes) in
+    omega (arith, e, more) where
+      by_test : (b : Bool) → ended_lines bytes ≤ length (raw_lines bytes) → cond b 1 0 + ended_lines bytes ≤ length (cond b ([] ∷ raw_lines bytes) (onto_first byte (raw_lines bytes)))
+      by_test true rest = omega (arith, rest)
+      by_test false rest = omega (arith, rest, lines_onto_first byte (raw_lines bytes))

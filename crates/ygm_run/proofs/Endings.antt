@@ -1,7 +1,7 @@
 -- The cause of an ending, by other causes.
-use Rattle.std.proofs.Common.{◌≡◌, ℕ, zero, suc, ◌<◌, ◌≤◌, ◌^◌, List, [], ◌∷◌, Some, None, Option, Result, Ok, Err, IfSome, length, map, take, get_or, slice_get, refl, ap, sym, ◌∙◌, subst, arith, inl, inr}
+use Rattle.std.proofs.Common.{◌≡◌, ℕ, zero, suc, ◌+◌, ◌++◌, ◌<◌, ◌≤◌, ◌^◌, List, [], ◌∷◌, Some, None, Option, Result, Ok, Err, IfSome, length, map, take, get_or, slice_get, refl, ap, sym, ◌∙◌, subst, arith, inl, inr}
 use Rattle.std.specs.Option.{option_map}
-use Rattle.std.proofs.lemmas.List.{length-map}
+use Rattle.std.proofs.lemmas.List.{length-map, map-append}
 use Rattle.std.proofs.lemmas.List.Folds.{length-flat_map-take}
 use Rattle.std.proofs.lemmas.Option.{slice_get-map, slice_get_cases, slice_get_within, get_or_from_slice_get}
 use Rattle.ygm_io.specs.Content.{Told, NothingLeft}
@@ -14,8 +14,9 @@ use Rattle.ygm_run.specs.declared.status.Status.TheVariants.{Done, Usage, OpenFa
 use Rattle.ygm_run.specs.declared.tally.JobFault.{JobFault}
 use Rattle.ygm_run.specs.declared.tally.JobFault.TheVariants.{Input as JobInput, CountFull as JobFull, NoMemory as JobNoMemory}
 use Rattle.ygm_run.specs.declared.words.UsageKind.{UsageKind}
-use Rattle.ygm_run.specs.Ending.{EndsBy, IsDoneIfMemory, IsFirstUnopened, IsNoted, OnDone, Opened, RunEnds, StopsBy, UnlessNoMemory, UnlessWritten, fault_of, status_of}
+use Rattle.ygm_run.specs.Ending.{EndsBy, IsDoneIfMemory, IsFirstUnopened, IsNoted, JobEnds, OnDone, Opened, RunEnds, StopsBy, UnlessNoMemory, UnlessWritten, IsFaultOf, status_of}
 use Rattle.comm_rank.specs.Fault.{IfCountFull}
+use Rattle.comm_rank.proofs.Advancing.{same_item}
 use Rattle.ygm_run.specs.Inputs.{AllRead, AreRests, IsFullAtRank, IsLowestFault, IsRead, IsRest, good_lines}
 use Rattle.ygm_run.specs.Job.{AreGood, AreTold, lines_of_each, most_letters}
 use Rattle.ygm_run.specs.Lines.{first_too_long, lines_of, raw_lines, text_of}
@@ -24,19 +25,14 @@ use Rattle.ygm_run.specs.Tally.{all_lines}
 use Rattle.ygm_run.specs.Words.{named}
 use Rattle.ygm_run.proofs.Feeding.{rest_none}
 use Rattle.ygm_run.proofs.GoodLines.{few_good}
+use Rattle.world_core.proofs.Steps.{taken_more}
 
 -- a rank's full count is the job's
-pub stops_full : (full : ℕ → ℕ → Type 0) (input : ℕ → InputFault → Type 0) (rank : ℕ) (fault : CommFault) (P : ℕ → Type 0) → ((limit : ℕ) → P limit → full rank limit) → IfCountFull fault P → StopsBy full input (fault_of rank fault)
-stops_full full input rank (CommFull at) P f p = f at p
-stops_full full input rank CommNoMemory P f p = tt
-stops_full full input rank CommStopped P f p = tt
-
--- the status of a job's fault has its cause
-pub ends_stopped : (refused : UsageKind → Type 0) (unopened : ℕ → Type 0) (full : ℕ → ℕ → Type 0) (input : ℕ → InputFault → Type 0) (unwritten done : Type 0) (fault : JobFault) → StopsBy full input fault → EndsBy refused unopened full input unwritten done (status_of fault)
-ends_stopped refused unopened full input unwritten done (JobInput rank Read) p = p
-ends_stopped refused unopened full input unwritten done (JobInput rank (Bad line why)) p = p
-ends_stopped refused unopened full input unwritten done (JobFull rank at) p = p
-ends_stopped refused unopened full input unwritten done JobNoMemory p = tt
+pub stops_full : (full : ℕ → ℕ → Type 0) (input : ℕ → InputFault → Type 0) (rank : ℕ) (fault : CommFault) (P : ℕ → Type 0) → ((limit : ℕ) → P limit → full rank limit) → IfCountFull fault P
+    → (found : JobFault) → IsFaultOf rank fault found → StopsBy full input found
+stops_full full input rank (CommFull at) P f p found is = subst (StopsBy full input) (sym is) (f at p)
+stops_full full input rank CommNoMemory P f p found is = subst (StopsBy full input) (sym is) tt
+stops_full full input rank CommStopped P f p found is = absurd is
 
 note_unnamed : (fault : JobFault) (told : Status) (names others : List (List ℕ)) → UnlessNoMemory told (told ≡ status_of fault) → note_text told names ≡ note_text told others
 note_unnamed fault Done names others same = refl
@@ -68,17 +64,6 @@ ends_so r1 r2 o1 o2 f1 f2 i1 i2 w1 w2 d1 d2 r o f i w d (BadLine rank line why) 
 ends_so r1 r2 o1 o2 f1 f2 i1 i2 w1 w2 d1 d2 r o f i w d WriteFault p = w p
 ends_so r1 r2 o1 o2 f1 f2 i1 i2 w1 w2 d1 d2 r o f i w d Done p = d p
 ends_so r1 r2 o1 o2 f1 f2 i1 i2 w1 w2 d1 d2 r o f i w d NoMemory p = tt
-
--- the status that was told has the cause of the one that it tells
-pub ends_told : (refused : UsageKind → Type 0) (unopened : ℕ → Type 0) (full : ℕ → ℕ → Type 0) (input : ℕ → InputFault → Type 0) (unwritten done : Type 0) (told status : Status) → UnlessNoMemory told (told ≡ status) → EndsBy refused unopened full input unwritten done status → EndsBy refused unopened full input unwritten done told
-ends_told r o f i w d Done status same p = subst (EndsBy r o f i w d) (sym same) p
-ends_told r o f i w d (Usage kind) status same p = subst (EndsBy r o f i w d) (sym same) p
-ends_told r o f i w d (OpenFault file) status same p = subst (EndsBy r o f i w d) (sym same) p
-ends_told r o f i w d (ReadFault rank) status same p = subst (EndsBy r o f i w d) (sym same) p
-ends_told r o f i w d (BadLine rank line why) status same p = subst (EndsBy r o f i w d) (sym same) p
-ends_told r o f i w d WriteFault status same p = subst (EndsBy r o f i w d) (sym same) p
-ends_told r o f i w d NoMemory status same p = tt
-ends_told r o f i w d (CountFull rank at) status same p = subst (EndsBy r o f i w d) (sym same) p
 
 -- the note by the files that the words name
 pub noted_under : (order : Result (List (List ℕ)) UsageKind) (names : List (List ℕ)) (status : Status) (before now : Told) (faults faults_now : ℕ) → order ≡ Ok names → IsNoted (note_text status names) before now faults faults_now → IsNoted (note_text status (named order)) before now faults faults_now
@@ -113,10 +98,9 @@ module _ {S : Type 0} (left : S → Told) (count : S → ℕ) where
 
   -- a run that opened all files
   pub run_opened : (names : List (List ℕ)) (content : List ℕ → Told) (helds : List Told) (sources : List S) (opening writing : Type 0) (status : Status) → length sources ≡ length names → helds ≡ map content names
-      → EndsBy (λ _. ⊥) (λ _. ⊥) (IsFullAtRank count helds sources) (IsLowestFault left count helds sources) (AllRead left count helds sources × writing) (AllRead left count helds sources) status
-      → RunEnds left count (Ok names) content sources opening writing status
+      → JobEnds left count helds sources writing status → RunEnds left count (Ok names) content sources opening writing status
   run_opened names content helds sources opening writing status all is ends =
-      let now = subst (λ hs. EndsBy (λ _. ⊥) (λ _. ⊥) (IsFullAtRank count hs sources) (IsLowestFault left count hs sources) (AllRead left count hs sources × writing) (AllRead left count hs sources) status) is ends in
+      let now = subst (λ hs. JobEnds left count hs sources writing status) is ends in
       ends_so (λ _. ⊥) (λ kind. (Ok names ≡ Err kind) × (sources ≡ []))
       (λ _. ⊥) (λ file. (ns : List (List ℕ)) × (Ok names ≡ Ok ns) × IsFirstUnopened left count content ns sources file × opening)
       (IsFullAtRank count (map content names) sources) (λ rank at. Opened (Ok names) sources (λ ns. IsFullAtRank count (map content ns) sources rank at))
@@ -132,17 +116,20 @@ module _ {S : Type 0} (left : S → Told) (count : S → ℕ) where
   pub run_over : (order : Result (List (List ℕ)) UsageKind) (content : List ℕ → Told) (sources others : List S) (opening writing : Type 0) (status : Status) → sources ≡ others → RunEnds left count order content others opening writing status → RunEnds left count order content sources opening writing status
   run_over order content sources others opening writing status e ends = subst (λ xs. RunEnds left count order content xs opening writing status) (sym e) ends
 
+  -- one more of the names was opened
+  pub opened_more : (content : List ℕ → Told) (names : List (List ℕ)) (k : ℕ) (old now : List S) (source : S) (name : List ℕ) → now ≡ old ++ source ∷ [] → map left old ≡ map content (take k names) → slice_get names k ≡ Some name → left source ≡ content name
+      → map left now ≡ map content (take (k + 1) names)
+  opened_more content names k old now source name pushed before at is =
+      ap (map left) pushed ∙ map-append left old (source ∷ []) ∙ ap (λ w. w ++ left source ∷ []) before ∙ ap (λ x. map content (take k names) ++ x ∷ []) is
+      ∙ sym (ap (map content) (taken_more names k name at) ∙ map-append content (take k names) (name ∷ []))
+
   -- of sources of which nothing was read all is left
   pub rests_unread : (helds : List Told) (sources : List S) (k : ℕ) → map left sources ≡ take k helds → AreRests left helds sources
   rests_unread helds sources k same r held source is at =
       let front : slice_get (take k helds) r ≡ Some (left source) = ap (λ (w : List Told). slice_get w r) (sym same) ∙ slice_get-map left sources r ∙ ap (option_map left) at in
       let whole = in_front helds k r (left source) front in
-      let e : held ≡ left source = one (slice_get helds r) held (left source) is whole in
+      let e : held ≡ left source = same_item helds r held (left source) is whole in
       subst (λ t. IsRest t (left source)) (sym e) (rest_none (left source)) where
-        one : (o : Option Told) (x y : Told) → o ≡ Some x → o ≡ Some y → x ≡ y
-        one None x y p q = cc
-        one (Some z) x y p q = cc
-
         in_front : (xs : List Told) (i j : ℕ) (x : Told) → slice_get (take i xs) j ≡ Some x → slice_get xs j ≡ Some x
         in_front [] zero j x e = e
         in_front [] (suc i) j x e = e

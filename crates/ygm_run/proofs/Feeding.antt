@@ -1,6 +1,7 @@
 -- Lines are given to the world one after another.
 use Rattle.std.proofs.Common.{◌≡◌, ℕ, ◌+◌, ◌<◌, ◌≤◌, ◌^◌, Bool, true, false, cond, eqb, List, [], ◌∷◌, ◌++◌, Some, None, Option, IfSome, length, map, refl, sym, ap, ◌∙◌, subst, arith, append_assoc, length-append}
 use Rattle.std.specs.List.{AllByRecursion}
+use Rattle.std.proofs.lemmas.Bool.{false≢true}
 use Rattle.std.proofs.lemmas.List.{append-nil, map-append}
 use Rattle.ygm_io.specs.Content.{Told, TakenFrom, NothingLeft}
 use Rattle.world_core.specs.Plain.{Plain}
@@ -14,7 +15,7 @@ use Rattle.comm_rank.specs.Fault.{IfCountFull}
 use Rattle.comm_rank.specs.declared.fault.CommFault.TheVariants.{CountFull, NoMemory, Stopped}
 use Rattle.ygm_run.specs.Fed.{Fed, LinesTaken, EndedWith, HasLine, with_lines}
 use Rattle.ygm_run.specs.Inputs.{IsRead, IsRest, good_lines}
-use Rattle.ygm_run.specs.Lines.{max_line, lines_of, raw_lines, text_of, first_too_long, StartsTooLong}
+use Rattle.ygm_run.specs.Lines.{max_line, ended_lines, lines_of, raw_lines, text_of, first_too_long, StartsTooLong}
 use Rattle.ygm_run.specs.Reading.{Reading}
 use Rattle.ygm_run.specs.Turns.{to_come, RawLineTaken}
 use Rattle.ygm_run.proofs.GoodLines.{both_short, few_good, good_before, good_below, later_too_long, none_too_long_of}
@@ -105,6 +106,10 @@ pub told_so : (P Q : List ℕ → Type 0) (left : Told) → ((bytes : List ℕ) 
 told_so P Q None f p = tt
 told_so P Q (Some bytes) f p = f bytes p
 
+-- a reader that isn't done says nothing of how it ended
+pub not_ended : (fault : Option InputFault) (reader : Reading) (left : Told) (faults faults_now : ℕ) → reader.done ≡ false → reader.done ≡ true → EndedWith fault reader left faults faults_now
+not_ended fault reader left faults faults_now going done = absurd (false≢true (sym going ∙ done))
+
 -- How a file was read, once its reading has ended.
 pub was_read : (raws : List (List ℕ)) (reader : Reading) (before now : Told) (faults : ℕ) (fault : Option InputFault) → AllByRecursion (λ raw. length raw ≤ max_line) raws
     → LinesTaken raws before (to_come reader.held now) → reader.given ≡ length raws → reader.given ≤ 2 ^ 56 → EndedWith fault reader now 0 faults → IsRead before now faults fault
@@ -126,10 +131,10 @@ was_read raws reader before now faults (Some Read) short taken given bound ended
   stops = λ line why e. absurd cc;
   few = λ none. absurd (omega (arith, none, ended.0));
 } where
-  read_before : (front : List ℕ) × TakenFrom front before now × (first_too_long (raw_lines front) ≡ None)
+  read_before : (front : List ℕ) × TakenFrom front before now × (first_too_long (raw_lines front) ≡ None) × (ended_lines front ≤ 2 ^ 56)
   read_before =
       let f = front_read raws reader.held [] reader.held before now (sym (append-nil reader.held)) ended.1 ended.2 short taken in
-      (f.0, subst (λ w. TakenFrom w before now) (append-nil f.0) f.1, f.2)
+      (f.0, subst (λ w. TakenFrom w before now) (append-nil f.0) f.1, f.2, omega (arith, f.3, given, bound))
 was_read raws reader before now faults (Some (Bad line why)) short taken given bound ended = record {
   read = ((λ e. absurd cc), (λ lt. absurd (omega (arith, lt, ended.2))));
   bad = λ none. bad_line_is;

@@ -6,6 +6,8 @@ use Rattle.std.proofs.lemmas.List.{length-map, get_or_past}
 use Rattle.std.proofs.lemmas.Option.{slice_get-map, slice_get_cases, slice_get_within, get_or_from_slice_get}
 use Rattle.world_core.specs.Plain.{Plain}
 use Rattle.comm_rank.specs.Rank.{Rank}
+use Rattle.comm_rank.proofs.Advancing.{same_item}
+use Rattle.comm_rank.proofs.Moving.{item_kept, item_set}
 use Rattle.counting_set.specs.Counting.{Counts}
 use Rattle.ygm_io.specs.Content.{Told}
 use Rattle.ygm_run.specs.declared.status.InputFault.{InputFault}
@@ -14,8 +16,8 @@ use Rattle.ygm_run.specs.Fed.{IsSent, with_lines}
 use Rattle.ygm_run.specs.Inputs.{AllRead, AreRests, IsFull, IsFullAtRank, IsLowestFault, IsRead, IsRest}
 use Rattle.ygm_run.specs.Job.{AreTold, lines_of_each}
 use Rattle.ygm_run.specs.Lines.{lines_of}
+use Rattle.ygm_run.proofs.Carrying.{placed}
 use Rattle.ygm_run.proofs.Feeding.{same_own, rest_none}
-use Rattle.ygm_run.proofs.Places.{set_at, set_other, set_same}
 
 -- this is the fault of the lowest of the first ranks that has one, with its rank
 abbrev pub LowestBelow : (ℕ → Option InputFault) → ℕ → Option (ℕ × InputFault) → Type 0
@@ -63,12 +65,8 @@ with_same own rank other lines e = ap (λ b. cond b (own other ++ lines) (own ot
 with_other : (own : ℕ → List (List ℕ)) (rank other : ℕ) (lines : List (List ℕ)) → (other ≡ rank → ⊥) → with_lines own rank lines other ≡ own other
 with_other own rank other lines ne = ap (λ b. cond b (own other ++ lines) (own other)) (ne_eqb other rank ne)
 
-one_of : {X : Type 0} (o : Option X) (x y : X) → o ≡ Some x → o ≡ Some y → x ≡ y
-one_of None x y p q = cc
-one_of (Some z) x y p q = cc
-
 held_at : {X : Type 0} (left : X → Told) (start : List X) (r : ℕ) (item : X) (held : Told) → slice_get start r ≡ Some item → slice_get (map left start) r ≡ Some held → left item ≡ held
-held_at left start r item held at is = one_of (slice_get (map left start) r) (left item) held (slice_get-map left start r ∙ ap (option_map left) at) is
+held_at left start r item held at is = same_item (map left start) r (left item) held (slice_get-map left start r ∙ ap (option_map left) at) is
 
 -- what was left of a source at the start
 start_at : {X : Type 0} (left : X → Told) (start : List X) (r : ℕ) (held : Told) (source : X) → slice_get (map left start) r ≡ Some held → slice_get start r ≡ Some source → IsRest held (left source)
@@ -90,10 +88,10 @@ read_none left count n start comms links c = record {
 pub rests_more : {S : Type 0} (left : S → Told) (start sources : List S) (k : ℕ) (item now : S) → AreRests left (map left start) sources → slice_get start k ≡ Some item → IsRest (left item) (left now) → AreRests left (map left start) (set sources k now)
 rests_more left start sources k item now rests at rest r held source is found = elim (cases_eq r k) [
   | inl e ↦
-      let same = set_same sources k source now (subst (λ i. slice_get (set sources k now) i ≡ Some source) e found) in
+      let same = placed sources k r source now e found in
       let first = held_at left start k item held at (subst (λ i. slice_get (map left start) i ≡ Some held) e is) in
       subst (λ t. IsRest t (left source)) first (subst (λ (x : _). IsRest (left item) (left x)) same rest)
-  | inr ne ↦ rests r held source is (sym (set_other sources k r now ne) ∙ found)
+  | inr ne ↦ rests r held source is (sym (item_kept sources k r now ne) ∙ found)
 ]
 
 pub read_more : {S : Type 0} (left : S → Told) (count : S → ℕ) (n : ℕ) (start sources : List S) (k : ℕ) (s1 s2 : List (Rank Counts)) (l1 l2 : Plain) (lowest lowest' : Option (ℕ × InputFault)) (item now : S) (new : Option InputFault)
@@ -107,11 +105,11 @@ read_more {S} left count n start sources k s1 s2 l1 l2 lowest lowest' item now n
   above = λ r le. with_other so.own k r sent.lines (λ e. omega (arith, le, e)) ∙ so.above r (omega (arith, le));
   read = λ r held source lt is found. elim (cases_eq r k) [
     | inl e ↦
-        let same = set_same sources k source now (subst (λ i. slice_get (set sources k now) i ≡ Some source) e found) in
+        let same = placed sources k r source now e found in
         let first = held_at left start k item held at (subst (λ i. slice_get (map left start) i ≡ Some held) e is) in
         subst (IsRead held (left source) (count source)) (sym (at_same so.fault k r new e))
         (subst (λ t. IsRead t (left source) (count source) new) first (subst (λ (x : S). IsRead (left item) (left x) (count x) new) same isread))
-    | inr ne ↦ subst (IsRead held (left source) (count source)) (sym (at_other so.fault k r new ne)) (so.read r held source (omega (arith, lt, ne)) is (sym (set_other sources k r now ne) ∙ found))
+    | inr ne ↦ subst (IsRead held (left source) (count source)) (sym (at_other so.fault k r new ne)) (so.read r held source (omega (arith, lt, ne)) is (sym (item_kept sources k r now ne) ∙ found))
   ];
   lines = λ r held lt no is. elim (cases_eq r k) [
     | inl e ↦
@@ -123,7 +121,7 @@ read_more {S} left count n start sources k s1 s2 l1 l2 lowest lowest' item now n
         subst (λ (w : List (List ℕ)). IfSome held (λ bytes. w ≡ lines_of bytes)) (sym (with_other so.own k r sent.lines ne))
         (so.lines r held (omega (arith, lt, ne)) (sym (at_other so.fault k r new ne) ∙ no) is)
   ];
-  untouched = λ r le. set_other sources k r now (λ e. omega (arith, le, e)) ∙ so.untouched r (omega (arith, le));
+  untouched = λ r le. item_kept sources k r now (λ e. omega (arith, le, e)) ∙ so.untouched r (omega (arith, le));
   rests = rests_more left start sources k item now so.rests at rest;
   lowest_is = lowest_more so.fault k new lowest lowest' so.lowest_is none some;
 }
@@ -180,4 +178,4 @@ lowest_told left count n start sources k comms links found all end within so = r
 
 -- a rank's count is full
 pub full_at : {S : Type 0} (left : S → Told) (count : S → ℕ) (start sources : List S) (k : ℕ) (item now : S) (limit : ℕ) → slice_get start k ≡ Some item → k < length sources → IsFull (left item) (count now) limit → IsFullAtRank count (map left start) (set sources k now) k limit
-full_at left count start sources k item now limit at lt full = (left item, now, slice_get-map left start k ∙ ap (option_map left) at, set_at sources k now lt, full)
+full_at left count start sources k item now limit at lt full = (left item, now, slice_get-map left start k ∙ ap (option_map left) at, item_set sources k now lt, full)

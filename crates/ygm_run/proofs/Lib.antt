@@ -4,6 +4,7 @@ pub mod Counting
 pub mod Cuts
 pub mod Endings
 pub mod Feeding
+pub mod FirstBad
 pub mod GoodLines
 pub mod InOrder
 pub mod Joining
@@ -12,7 +13,6 @@ pub mod Members
 pub mod NoteLines
 pub mod Owned
 pub mod Parts
-pub mod Places
 pub mod Senders
 pub mod Shards
 pub mod Table

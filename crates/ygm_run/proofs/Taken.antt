@@ -5,9 +5,9 @@ use Rattle.std.specs.List.{AllByRecursion}
 use Rattle.std.proofs.lemmas.List.{append-nil}
 use Rattle.ygm_io.specs.Content.{Told, TakenFrom, NothingLeft}
 use Rattle.ygm_run.specs.Fed.{LinesTaken}
-use Rattle.ygm_run.specs.Lines.{LacksLf, first_too_long, lines_of, max_line, raw_lines, text_of}
+use Rattle.ygm_run.specs.Lines.{LacksLf, ended_lines, first_too_long, lines_of, max_line, raw_lines, text_of}
 use Rattle.ygm_run.specs.Turns.{CutOff, to_come}
-use Rattle.ygm_run.proofs.Cuts.{raw_lines-at_lf, raw_lines-at_end}
+use Rattle.ygm_run.proofs.Cuts.{raw_lines-at_lf, raw_lines-at_end, ended_are_lines, ended_lines-append, ended_lines-none}
 use Rattle.ygm_run.proofs.GoodLines.{both_short, none_too_long_of}
 
 pub taken_none : (left : Told) → TakenFrom [] left left
@@ -68,16 +68,19 @@ part_short : (part : List ℕ) → LacksLf part → length part ≤ max_line →
 part_short [] h short = tt
 part_short (byte ∷ part) h short = subst (AllByRecursion (λ raw. length raw ≤ max_line)) (sym (raw_lines-at_end (byte ∷ part) h (omega arith))) (short, tt)
 
--- Short lines were given, and with a part of the next that is short too nothing bad was read, a piece behind it aside.
+-- Short lines were given, and with a part of the next that is short too nothing bad was read, a piece behind it aside; no
+-- more lines end there than were given.
 pub front_read : (raws : List (List ℕ)) (part piece held : List ℕ) (before now : Told) → held ≡ part ++ piece → LacksLf part → length part ≤ max_line → AllByRecursion (λ raw. length raw ≤ max_line) raws
-    → LinesTaken raws before (to_come held now) → (front : List ℕ) × TakenFrom (front ++ piece) before now × (first_too_long (raw_lines front) ≡ None)
-front_read raws part piece held before None is h fits short t = ([], t.taken, refl)
+    → LinesTaken raws before (to_come held now) → (front : List ℕ) × TakenFrom (front ++ piece) before now × (first_too_long (raw_lines front) ≡ None) × (ended_lines front ≤ length raws)
+front_read raws part piece held before None is h fits short t = ([], t.taken, refl, omega arith)
 front_read raws part piece held before (Some rest) is h fits short t =
-    let front = t.given ++ part in (
+    let front = t.given ++ part in
+    let given : raw_lines t.given ≡ raws = ap raw_lines (sym (append-nil t.given)) ∙ t.lines [] (held ++ rest) refl ∙ append-nil raws in (
       front,
       t.taken
           ∙ ap (λ w. Some (t.given ++ (w ++ rest))) is
           ∙ ap Some (sym (append_assoc t.given (part ++ piece) rest) ∙ ap (λ w. w ++ rest) (sym (append_assoc t.given part piece))),
       ap first_too_long (t.lines part (piece ++ rest) (ap (λ w. Some (w ++ rest)) is ∙ ap Some (append_assoc part piece rest)))
           ∙ none_too_long_of (raws ++ raw_lines part) (both_short raws (raw_lines part) short (part_short part h fits)),
+      omega (arith, ended_lines-append t.given part, ended_lines-none part h, ended_are_lines t.given, ap length given),
     )

@@ -1,8 +1,7 @@
 -- What the calls on a world of ranks do, from what the calls on its parts ensure.
-use Rattle.std.proofs.Common.{◌≡◌, ◌≢◌, ℕ, ◌+◌, ◌<◌, ◌≤◌, ◌^◌, true, false, List, [], ◌∷◌, ◌++◌, Some, Result, Ok, Err, OnOk, IfErr, IsErr, refl, length, set, take, drop, suc, zero, add-one, get_or, sym, ap, ◌∙◌, subst, inl, inr, arith, slice_get, append-nil, length-set}
+use Rattle.std.proofs.Common.{◌≡◌, ◌≢◌, ℕ, ◌+◌, ◌<◌, ◌≤◌, ◌^◌, true, false, List, [], ◌∷◌, ◌++◌, Some, Result, Ok, Err, OnOk, IfErr, IsErr, refl, length, set, take, drop, get_or, sym, ap, ◌∙◌, subst, inl, inr, arith, slice_get, append-nil, length-set}
 use Rattle.std.specs.Option.{option_map}
 use Rattle.std.proofs.lemmas.Bool.{cases_eq, cases_lt, false≢true}
-use Rattle.std.proofs.lemmas.List.Concat.{flat_map-append}
 use Rattle.std.proofs.lemmas.Option.{slice_get-map, slice_get_read, get_or_from_slice_get}
 use Rattle.std.proofs.Math.Seq.{take-length}
 use Rattle.std.proofs.Math.ListN.{drop_of_length-le}
@@ -18,11 +17,11 @@ use Rattle.comm_rank.specs.declared.fault.CommFault.TheVariants.{CountFull, NoMe
 use Rattle.comm_rank.specs.Fault.{GivesIfFull, IfStopped, IsFullAt}
 use Rattle.comm_rank.specs.Rank.{Rank, having_sent, sent_to}
 use Rattle.comm_rank.specs.Settled.{AreRanks, AreSameRanks, HasAdvanced, HasRun, IsRankOf}
+use Rattle.comm_rank.proofs.Moving.{item_kept, item_set}
 use Rattle.counting_set.specs.Counting.{Counts, counting_apply, add_letter}
 use Rattle.counting_set.specs.Owner.{owner_of_key}
-use Rattle.ygm_run.specs.Carried.{AreReady, Carried, HasSettled, kept, sent_counts, with_line}
-use Rattle.ygm_run.proofs.Carrying.{SentLine, caller_quiet, carried_line, carried_settled, counts_none, ready_settled, same_counts, stays_quiet}
-use Rattle.ygm_run.proofs.Places.{set_at, set_other, set_same}
+use Rattle.ygm_run.specs.Carried.{AreReady, HasSettled, LineSent, sent_counts}
+use Rattle.ygm_run.proofs.Carrying.{SentLine, caller_quiet, carried_line, carried_settled, counts_none, placed, ready_settled, same_counts, stays_quiet}
 
 -- ---- a line is sent
 
@@ -30,78 +29,72 @@ module _ (n rank : ℕ) (comms : List (Rank Counts)) (links : Plain) (old now : 
   at : slice_get comms rank ≡ Some old
   at = slice_get_read comms n rank old (sym all) lt is
 
-  here : old.here ≡ rank
-  here = (ready.ranks.each rank old at).here
+  was : IsRankOf counting_apply (λ _. []) links rank old
+  was = ready.ranks.each rank old at
 
   pub going : old.stopped ≡ false
-  going = (ready.ranks.each rank old at).going
+  going = was.going
 
   ranks_of : old.layout.ranks ≡ n
-  ranks_of = ap (λ (l : _). l.ranks) (ready.ranks.each rank old at).layout ∙ sym ready.ranks.all ∙ all
+  ranks_of = ap (λ (l : _). l.ranks) was.layout ∙ sym ready.ranks.all ∙ all
 
-  room : (r : Result (Unit {0}) CommFault) → (old.most ≤ old.sent_count → IsErr r) → OnOk r (old.sent_count < 2 ^ 56)
-  room (Err e) full = tt
-  room (Ok u) full = elim (cases_lt old.sent_count old.most) [ inl below ↦ omega (arith, below, ready.most rank old at) | inr above ↦ absurd (false≢true (full above)) ]
-
-  pub inserted : (r : Result (Unit {0}) CommFault) (line : List ℕ) → length line ≤ 1000000
-      → OnOk r ((log : List Entry) → sent_to now log (owner_of_key line old.layout.ranks) ≡ sent_to old log (owner_of_key line old.layout.ranks) ++ add_letter (owner_of_key line old.layout.ranks) old.here line ∷ [])
-      → ((log : List Entry) (other : ℕ) → other ≢ owner_of_key line old.layout.ranks → sent_to now log other ≡ sent_to old log other)
-      → OnOk r (now ≡ having_sent old (add_letter (owner_of_key line old.layout.ranks) old.here line)) → (old.most ≤ old.sent_count → IsErr r)
-      → OnOk r ((own : ℕ → List (List ℕ)) → Carried own n comms links → Carried (with_line own rank line) n (set comms rank now) links)
-  inserted (Err e) line fits sent others held full = tt
-  inserted (Ok u) line fits sent others held full = λ own c.
-      let counted : now.sent_count ≡ old.sent_count + 1 = ap (λ (r : Rank Counts). r.sent_count) held in
-      let one : SentLine old.layout.ranks old.here line old now = record { to_owner = sent; to_others = others; counted = counted } in
-      let one' : SentLine n rank line old now = subst (λ k. SentLine k rank line old now) ranks_of (subst (λ i. SentLine old.layout.ranks i line old now) here one) in
-      carried_line own n rank comms links line old now c at one' (omega (arith, counted, room (Ok u) full)) fits
-
-  pub inserted_ready : (r : Result (Unit {0}) CommFault) (l : Letter) → OnOk r (now ≡ having_sent old l) → ((log : List Entry) → Agrees counting_apply (λ _. []) old log → Agrees counting_apply (λ _. []) now log)
-      → OnOk r (AreReady (set comms rank now) links)
-  inserted_ready (Err e) l held keeps = tt
-  inserted_ready (Ok u) l held keeps =
-      let before = ready.ranks.each rank old at in
-      let mine : IsRankOf counting_apply (λ _. []) links rank now = record {
-        here = ap (λ (r : Rank Counts). r.here) held ∙ before.here;
-        layout = ap (λ (r : Rank Counts). r.layout) held ∙ before.layout;
-        scheme = ap (λ (r : Rank Counts). r.scheme) held ∙ before.scheme;
-        going = ap (λ (r : Rank Counts). r.stopped) held ∙ before.going;
-        few = omega (arith, before.few, ap (λ (r : Rank Counts). r.most) held);
-        agrees = keeps (log_of links.world rank) before.agrees;
-      } in
-      record {
-        ranks = record {
-          all = length-set comms rank now ∙ ready.ranks.all;
-          each = λ r m e. elim (cases_eq r rank) [
-            | inl x ↦
-                let same : now ≡ m = set_same comms rank m now (subst (λ i. slice_get (set comms rank now) i ≡ Some m) x e) in
-                subst (λ i. IsRankOf counting_apply (λ _. []) links i m) (sym x) (subst (IsRankOf counting_apply (λ _. []) links rank) same mine)
-            | inr x ↦ ready.ranks.each r m (sym (set_other comms rank r now x) ∙ e)
-          ];
-        };
-        most = λ r m e. elim (cases_eq r rank) [
-          | inl x ↦
-              let same : now ≡ m = set_same comms rank m now (subst (λ i. slice_get (set comms rank now) i ≡ Some m) x e) in
-              sym (ap (λ (i : Rank Counts). i.most) same) ∙ ap (λ (i : Rank Counts). i.most) held ∙ ready.most rank old at
-          | inr x ↦ ready.most r m (sym (set_other comms rank r now x) ∙ e)
-        ];
-        calm = ready.calm;
-      }
-
-  pub count_before : get_or (sent_counts comms) rank 0 ≡ old.sent_count
+  count_before : get_or (sent_counts comms) rank 0 ≡ old.sent_count
   count_before = get_or_from_slice_get (sent_counts comms) rank old.sent_count 0 (slice_get-map (λ (m : Rank Counts). m.sent_count) comms rank ∙ ap (option_map (λ (m : Rank Counts). m.sent_count)) at)
 
   count_after : get_or (sent_counts (set comms rank now)) rank 0 ≡ now.sent_count
   count_after =
       get_or_from_slice_get (sent_counts (set comms rank now)) rank now.sent_count 0
-      (slice_get-map (λ (m : Rank Counts). m.sent_count) (set comms rank now) rank ∙ ap (option_map (λ (m : Rank Counts). m.sent_count)) (set_at comms rank now (omega (arith, lt, all))))
+      (slice_get-map (λ (m : Rank Counts). m.sent_count) (set comms rank now) rank ∙ ap (option_map (λ (m : Rank Counts). m.sent_count)) (item_set comms rank now (omega (arith, lt, all))))
 
-  pub insert_counted : (r : Result (Unit {0}) CommFault) (l : Letter) → OnOk r (now ≡ having_sent old l) → OnOk r (get_or (sent_counts (set comms rank now)) rank 0 ≡ get_or (sent_counts comms) rank 0 + 1)
-  insert_counted (Err e) l held = tt
-  insert_counted (Ok u) l held = count_after ∙ ap (λ (r : Rank Counts). r.sent_count) held ∙ ap (λ k. k + 1) (sym count_before)
+  module _ (l : Letter) (held : now ≡ having_sent old l) where
+    counted : now.sent_count ≡ old.sent_count + 1
+    counted = ap (λ (r : Rank Counts). r.sent_count) held
 
-  pub insert_bound : (r : Result (Unit {0}) CommFault) (l : Letter) → OnOk r (now ≡ having_sent old l) → (old.most ≤ old.sent_count → IsErr r) → OnOk r (get_or (sent_counts (set comms rank now)) rank 0 ≤ 2 ^ 56)
-  insert_bound (Err e) l held full = tt
-  insert_bound (Ok u) l held full = let counted : now.sent_count ≡ old.sent_count + 1 = ap (λ (r : Rank Counts). r.sent_count) held in omega (arith, count_after, counted, room (Ok u) full)
+    ready_after : ((log : List Entry) → Agrees counting_apply (λ _. []) old log → Agrees counting_apply (λ _. []) now log) → AreReady (set comms rank now) links
+    ready_after keeps =
+        let mine : IsRankOf counting_apply (λ _. []) links rank now = record {
+          here = ap (λ (r : Rank Counts). r.here) held ∙ was.here;
+          layout = ap (λ (r : Rank Counts). r.layout) held ∙ was.layout;
+          scheme = ap (λ (r : Rank Counts). r.scheme) held ∙ was.scheme;
+          going = ap (λ (r : Rank Counts). r.stopped) held ∙ was.going;
+          few = omega (arith, was.few, ap (λ (r : Rank Counts). r.most) held);
+          agrees = keeps (log_of links.world rank) was.agrees;
+        } in
+        record {
+          ranks = record {
+            all = length-set comms rank now ∙ ready.ranks.all;
+            each = λ r m e. elim (cases_eq r rank) [
+              | inl x ↦ subst (λ i. IsRankOf counting_apply (λ _. []) links i m) (sym x) (subst (IsRankOf counting_apply (λ _. []) links rank) (placed comms rank r m now x e) mine)
+              | inr x ↦ ready.ranks.each r m (sym (item_kept comms rank r now x) ∙ e)
+            ];
+          };
+          most = λ r m e. elim (cases_eq r rank) [
+            | inl x ↦ sym (ap (λ (i : Rank Counts). i.most) (placed comms rank r m now x e)) ∙ ap (λ (i : Rank Counts). i.most) held ∙ ready.most rank old at
+            | inr x ↦ ready.most r m (sym (item_kept comms rank r now x) ∙ e)
+          ];
+          calm = ready.calm;
+        }
+
+  -- a rank that sent the line's letter, and had room for it
+  pub line_sent : (r : Result (Unit {0}) CommFault) (line : List ℕ) → length line ≤ 1000000
+      → OnOk r ((log : List Entry) → sent_to now log (owner_of_key line old.layout.ranks) ≡ sent_to old log (owner_of_key line old.layout.ranks) ++ add_letter (owner_of_key line old.layout.ranks) old.here line ∷ [])
+      → ((log : List Entry) (other : ℕ) → other ≢ owner_of_key line old.layout.ranks → sent_to now log other ≡ sent_to old log other)
+      → OnOk r (now ≡ having_sent old (add_letter (owner_of_key line old.layout.ranks) old.here line)) → (old.most ≤ old.sent_count → IsErr r)
+      → ((log : List Entry) → Agrees counting_apply (λ _. []) old log → Agrees counting_apply (λ _. []) now log)
+      → OnOk r (LineSent n rank line comms (set comms rank now) links links)
+  line_sent (Err e) line fits sent others held full keeps = tt
+  line_sent (Ok u) line fits sent others held full keeps =
+      let l = add_letter (owner_of_key line old.layout.ranks) old.here line in
+      let one : SentLine old.layout.ranks old.here line old now = record { to_owner = sent; to_others = others; counted = counted l held } in
+      let one' : SentLine n rank line old now = subst (λ k. SentLine k rank line old now) ranks_of (subst (λ i. SentLine old.layout.ranks i line old now) was.here one) in
+      let room : old.sent_count < 2 ^ 56 = elim (cases_lt old.sent_count old.most) [ inl below ↦ omega (arith, below, ready.most rank old at) | inr above ↦ absurd (false≢true (full above)) ] in
+      let few : now.sent_count ≤ 2 ^ 56 = omega (arith, counted l held, room) in
+      record {
+        ready = ready_after l held keeps;
+        carried = λ own c. carried_line own n rank comms links line old now c at one' few fits;
+        counted = count_after ∙ counted l held ∙ ap (λ k. k + 1) (sym count_before);
+        bound = omega (arith, count_after, few);
+      }
 
   pub insert_cause : (r : Result (Unit {0}) CommFault) → IfErr r (IsFullAt old.sent_count old.most) → IfErr r (IsFullAt (get_or (sent_counts comms) rank 0) (2 ^ 56))
   insert_cause r cause = rw (count_before, sym (ready.most rank old at)) cause
@@ -134,16 +127,15 @@ has_settled (Ok u) caller before after old new ready same ranks advanced ran now
   counted = same_counts before after same (λ r b a x y. counts_none before after old new same advanced r b a x y);
 }
 
+-- a line was sent, and then a rank's letters ran
+pub line_settled : (n rank caller : ℕ) (line : List ℕ) (a b c : List (Rank Counts)) (x y z : Plain) → LineSent n rank line a b x y → HasSettled caller b c y z → LineSent n rank line a c x z
+line_settled n rank caller line a b c x y z sent did =
+    let same = ap (λ ks. get_or ks rank 0) did.counted in
+    record {
+      ready = did.ready;
+      carried = λ own now. did.carried _ n (sent.carried own now);
+      counted = same ∙ sent.counted;
+      bound = omega (arith, same, sent.bound);
+    }
+
 -- ---- what the ranks keep
-
-pub take_next : {X : Type 0} (xs : List X) (k : ℕ) (x : X) → slice_get xs k ≡ Some x → take (k + 1) xs ≡ take k xs ++ x ∷ []
-take_next {X} xs k x e = ap (λ i. take i xs) (add-one k) ∙ go xs k e where
-  go : (ys : List X) (i : ℕ) → slice_get ys i ≡ Some x → take (suc i) ys ≡ take i ys ++ x ∷ []
-  go [] i e = cc
-  go (y ∷ ys) zero e = let same : y ≡ x = cc in ap (λ z. z ∷ []) same
-  go (y ∷ ys) (suc i) e = ap (λ w. y ∷ w) (go ys i e)
-
--- one rank's entries more
-pub kept_next : (comms : List (Rank Counts)) (k : ℕ) (me : Rank Counts) → slice_get comms k ≡ Some me → kept (take (k + 1) comms) ≡ kept (take k comms) ++ me.contents
-kept_next comms k me e =
-    ap kept (take_next comms k me e) ∙ flat_map-append (λ (m : Rank Counts). m.contents) (take k comms) (me ∷ []) ∙ ap (λ w. kept (take k comms) ++ w) (append-nil me.contents)

@@ -1,5 +1,5 @@
 -- The lines of each rank on their way to the ranks that own them.
-use Rattle.std.specs.Prelude.{◌≡◌, ℕ, ◌<◌, ◌≤◌, ◌^◌, ◌==◌, false, List, [], ◌∷◌, ◌++◌, Some, length, map, filter, flat_map, slice_get, if◌then◌else◌}
+use Rattle.std.specs.Prelude.{◌≡◌, ℕ, ◌+◌, ◌<◌, ◌≤◌, ◌^◌, ◌==◌, false, List, [], ◌∷◌, ◌++◌, Some, length, map, filter, flat_map, slice_get, slice_index, if◌then◌else◌}
 use Rattle.std.specs.List.{AllByRecursion}
 use Rattle.msg_codec.specs.declared.letter.Letter.{Letter}
 use Rattle.ygm_route.specs.declared.scheme.Scheme.TheVariants.{Direct}
@@ -42,6 +42,14 @@ pub record Carried (own : ℕ → List (List ℕ)) (ranks : ℕ) (comms : List (
 -- the same lines, and one more of a rank
 abbrev pub with_line : (ℕ → List (List ℕ)) → ℕ → List ℕ → ℕ → List (List ℕ)
 with_line own rank line other = if other == rank then own other ++ line ∷ [] else own other
+
+-- A line of a rank was sent: its letter is behind those of the lines that ranks gave before, and its rank has sent one
+-- letter more.
+pub record LineSent (ranks rank : ℕ) (line : List ℕ) (before after : List (Rank Counts)) (old new : Plain) : Type 0 where
+  pub ready : AreReady after new
+  pub carried : (own : ℕ → List (List ℕ)) → Carried own ranks before old → Carried (with_line own rank line) ranks after new
+  pub counted : slice_index (sent_counts after) rank ≡ slice_index (sent_counts before) rank + 1
+  pub bound : slice_index (sent_counts after) rank ≤ 2 ^ 56
 
 -- all that a rank has sent has run
 abbrev pub IsQuietFrom : List (Rank Counts) → Plain → ℕ → Type 0

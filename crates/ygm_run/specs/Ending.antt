@@ -1,7 +1,7 @@
 -- How a run ends, and why.
 use Rattle.std.specs.Prelude.{◌≡◌, ◌⊎◌, ℕ, ◌<◌, List, [], Result, Ok, Err, Some, length, map, slice_get, take, ⊤}
 use Rattle.ygm_io.specs.Content.{Told, AppendedTo}
-use Rattle.ygm_io.specs.Faults.{Rose}
+use Rattle.ygm_io.specs.Rising.{Rose}
 use Rattle.comm_rank.specs.declared.fault.CommFault.{CommFault}
 use Rattle.comm_rank.specs.declared.fault.CommFault.TheVariants.{CountFull as CommFull, NoMemory as CommNoMemory, Stopped as CommStopped}
 use Rattle.ygm_run.specs.declared.status.InputFault.{InputFault}
@@ -46,6 +46,17 @@ UnlessWritten WriteFault P = ⊤
 UnlessWritten NoMemory P = P
 UnlessWritten (CountFull rank at) P = P
 
+-- where the status says that no open failed: it is neither that of a file nor want of memory
+abbrev pub UnlessUnopened : Status → Type 0 → Type 0
+UnlessUnopened Done P = P
+UnlessUnopened (Usage kind) P = P
+UnlessUnopened (OpenFault file) P = ⊤
+UnlessUnopened (ReadFault rank) P = P
+UnlessUnopened (BadLine rank line why) P = P
+UnlessUnopened WriteFault P = P
+UnlessUnopened NoMemory P = ⊤
+UnlessUnopened (CountFull rank at) P = P
+
 -- the front of a text was put behind what was held
 abbrev pub FrontAppended : List ℕ → Told → Told → Type 0
 FrontAppended text before now = (count : ℕ) × AppendedTo (take count text) before now
@@ -70,6 +81,11 @@ EndsBy refused unopened full fault unwritten done NoMemory = ⊤
 -- the words were accepted, and each file that they name was opened
 abbrev pub Opened : {S : Type 0} → Result (List (List ℕ)) UsageKind → List S → (List (List ℕ) → Type 0) → Type 0
 Opened order sources P = (names : List (List ℕ)) × (order ≡ Ok names) × (length sources ≡ length names) × P names
+
+-- why the job ended so over these files, each of which was opened
+abbrev pub JobEnds : {S : Type 0} → (S → Told) → (S → ℕ) → List Told → List S → Type 0 → Status → Type 0
+JobEnds left count helds sources writing =
+    EndsBy (λ _. ⊥) (λ _. ⊥) (IsFullAtRank count helds sources) (IsLowestFault left count helds sources) (AllRead left count helds sources × writing) (AllRead left count helds sources)
 
 -- The file of this number is the first that couldn't be opened: those before it were, and not a byte of them was read.
 pub record IsFirstUnopened {S : Type 0} (left : S → Told) (count : S → ℕ) (content : List ℕ → Told) (names : List (List ℕ)) (sources : List S) (file : ℕ) : Type 0 where
@@ -120,8 +136,12 @@ StopsBy full fault (JobInput rank found) = fault rank found
 StopsBy full fault (JobFull rank at) = full rank at
 StopsBy full fault JobNoMemory = ⊤
 
--- a rank's fault as one of the job
-abbrev pub fault_of : ℕ → CommFault → JobFault
-fault_of rank (CommFull at) = JobFull rank at
-fault_of rank CommNoMemory = JobNoMemory
-fault_of rank CommStopped = JobNoMemory
+-- why the job over these files has no text
+abbrev pub JobStops : {S : Type 0} → (S → Told) → (S → ℕ) → List Told → List S → JobFault → Type 0
+JobStops left count helds sources = StopsBy (IsFullAtRank count helds sources) (IsLowestFault left count helds sources)
+
+-- a rank's fault as one of the job; no rank's is a stop
+abbrev pub IsFaultOf : ℕ → CommFault → JobFault → Type 0
+IsFaultOf rank (CommFull at) fault = fault ≡ JobFull rank at
+IsFaultOf rank CommNoMemory fault = fault ≡ JobNoMemory
+IsFaultOf rank CommStopped fault = ⊥

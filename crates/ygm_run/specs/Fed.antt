@@ -2,7 +2,7 @@
 use Rattle.std.specs.Prelude.{◌≡◌, ℕ, ◌+◌, ◌-◌, ◌*◌, ◌≤◌, ◌^◌, ◌==◌, List, ◌++◌, Option, None, Some, IfSome, length, map, if◌then◌else◌, []}
 use Rattle.std.specs.List.{AllByRecursion}
 use Rattle.ygm_io.specs.Content.{Told, TakenFrom, NothingLeft}
-use Rattle.ygm_io.specs.Faults.{Rose}
+use Rattle.ygm_io.specs.Rising.{Rose}
 use Rattle.world_core.specs.Plain.{Plain}
 use Rattle.comm_rank.specs.Rank.{Rank}
 use Rattle.counting_set.specs.Counting.{Counts}

@@ -4,7 +4,7 @@ use Rattle.ygm_io.specs.Content.{Told, TakenFrom, NothingLeft}
 use Rattle.ygm_run.specs.declared.status.InputFault.{InputFault}
 use Rattle.ygm_run.specs.declared.status.InputFault.TheVariants.{Read, Bad}
 use Rattle.ygm_run.specs.declared.status.LineWhy.{LineWhy}
-use Rattle.ygm_run.specs.Lines.{max_line, raw_lines, first_too_long}
+use Rattle.ygm_run.specs.Lines.{max_line, raw_lines, ended_lines, first_too_long}
 
 -- what is left of what was held: some front of it is gone
 abbrev pub IsRest : Told → Told → Type 0
@@ -29,8 +29,8 @@ pub record IsRead (held left : Told) (count : ℕ) (fault : Option InputFault) :
   pub bad : count ≡ 0 → IfSome held (λ bytes. bad_line fault ≡ first_too_long (raw_lines bytes))
   -- without a fault nothing is left
   pub to_its_end : fault ≡ None → NothingLeft left
-  -- what was read before a read failed has no bad line
-  pub before_read : fault ≡ Some Read → (front : List ℕ) × TakenFrom front held left × (first_too_long (raw_lines front) ≡ None)
+  -- what was read before a read failed has no bad line, and no more lines end in it than a rank sends letters
+  pub before_read : fault ≡ Some Read → (front : List ℕ) × TakenFrom front held left × (first_too_long (raw_lines front) ≡ None) × (ended_lines front ≤ 2 ^ 56)
   -- what was read before the piece that made a line bad has no bad line, and nothing was read behind that piece
   pub stops : (line : ℕ) (why : LineWhy) → fault ≡ Some (Bad line why) → (front piece : List ℕ) × (length piece ≤ 65536)
       × TakenFrom (front ++ piece) held left × (first_too_long (raw_lines front) ≡ None)

@@ -3,7 +3,7 @@ use Rattle.std.specs.Prelude.{◌≡◌, ℕ, ◌+◌, ◌*◌, List, None, Some
 use Rattle.std.specs.List.{AllByRecursion}
 use Rattle.ygm_io.specs.Content.{Told}
 use Rattle.ygm_run.specs.Lines.{first_too_long, lines_of, raw_lines}
-use Rattle.ygm_run.specs.Tally.{all_lines}
+use Rattle.ygm_run.specs.Tally.{all_lines, tally_text}
 
 -- all of the sources tell, these bytes
 abbrev pub AreTold : List Told → List (List ℕ) → Type 0
@@ -12,6 +12,10 @@ AreTold lefts bytes = lefts ≡ map Some bytes
 -- the lines of each of the files
 abbrev pub lines_of_each : List (List ℕ) → List (List (List ℕ))
 lines_of_each bytes = map lines_of bytes
+
+-- a fact of the job's text, where the files tell their bytes
+abbrev pub OfText : List Told → (List ℕ → Type 0) → Type 0
+OfText helds P = (bytes : List (List ℕ)) → AreTold helds bytes → P (tally_text (lines_of_each bytes))
 
 -- a bound on the letters that a rank of the job sends, by the lines of all files
 abbrev pub most_letters : List (List (List ℕ)) → ℕ

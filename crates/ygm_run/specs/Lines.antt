@@ -1,5 +1,5 @@
 -- The lines of bytes. A line ends at LF (10), and one CR (13) at its end is no part of its text.
-use Rattle.std.specs.Prelude.{◌≡◌, ◌≢◌, ◌==◌, ℕ, ◌+◌, List, [], ◌∷◌, All, map, length, Option, None, Some, nat_lt, if◌then◌else◌}
+use Rattle.std.specs.Prelude.{◌≡◌, ◌≢◌, ◌==◌, ℕ, ◌+◌, List, [], ◌∷◌, All, count_by, map, length, ◌++◌, ◌<◌, ◌≤◌, Option, None, Some, nat_lt, if◌then◌else◌}
 use Rattle.std.specs.Option.{option_map}
 
 -- how many bytes a line has at most, a CR counted and its LF not
@@ -30,6 +30,10 @@ lines_of bytes = map text_of (raw_lines bytes)
 abbrev pub LacksLf : List ℕ → Type 0
 LacksLf bytes = All (λ byte. byte ≢ 10) bytes
 
+-- how many lines end in these bytes
+abbrev pub ended_lines : List ℕ → ℕ
+ended_lines bytes = count_by (λ byte. byte == 10) bytes
+
 -- the number, from 1, of the first raw line that has too many bytes
 abbrev pub first_too_long : List (List ℕ) → Option ℕ
 first_too_long [] = None
@@ -38,3 +42,17 @@ first_too_long (raw ∷ raws) = if nat_lt max_line (length raw) then Some 1 else
 -- the first raw line has too many bytes
 abbrev pub StartsTooLong : List ℕ → Type 0
 StartsTooLong bytes = first_too_long (raw_lines bytes) ≡ Some 1
+
+-- no raw line has too many bytes
+abbrev pub AreShort : List (List ℕ) → Type 0
+AreShort raws = All (λ raw. length raw ≤ max_line) raws
+
+-- the raw line of this number, from 1, has too many bytes, and none before it has
+pub record IsFirstTooLong (raws : List (List ℕ)) (number : ℕ) : Type 0 where
+  pub before : List (List ℕ)
+  pub line : List ℕ
+  pub later : List (List ℕ)
+  pub parts : raws ≡ before ++ line ∷ later
+  pub short : AreShort before
+  pub long : max_line < length line
+  pub number_is : number ≡ length before + 1

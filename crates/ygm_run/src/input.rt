@@ -1,6 +1,6 @@
 //! A rank's file, from its bytes to letters on their way.
 ghost use Rattle.std.specs.Prelude.{◌≡◌, ◌<◌, ◌≤◌, ◌+◌, ◌^◌, false, true, slice_index, IfOk, IfErr, OnOk};
-ghost use Rattle.comm_rank.specs.Fault.{IfCountFull};
+ghost use Rattle.comm_rank.specs.Fault.{IfCountFull, NeverStopped};
 ghost use Rattle.ygm_run.specs.Carried.{AreReady, sent_counts};
 ghost use Rattle.ygm_run.specs.Fed.{EndedWith, Fed, HasLine, IsSent, turns_left};
 ghost use Rattle.ygm_run.specs.Inputs.{IsFull, IsRead, IsRest};
@@ -39,6 +39,7 @@ fn take_turn<S: Source>(
     ensures going_on { OnOk result (reader.new.done ≡ false → S.faults source.new ≡ S.faults source.old) }
     ensures full { IfErr result (λ fault. IfCountFull fault (λ limit. (limit ≡ 2 ^ 56) × (2 ^ 56 ≤ slice_index (sent_counts world.old.comms.items) rank)
         × (S.faults source.new ≡ S.faults source.old) × HasLine (to_come reader.old.held (S.left source.old)))) }
+    ensures never_stopped { IfErr result NeverStopped }
     ensures rest { IsRest (S.left source.old) (S.left source.new) }
     ensures ranks { world.new.ranks ≡ world.old.ranks }
 {
@@ -73,6 +74,7 @@ pub(crate) fn read_file<S: Source>(
     ensures sent { IfOk result (IsSent world.old.ranks rank world.old.comms.items world.new.comms.items world.old.links world.new.links (S.left source.old)) }
     ensures read { IfOk result (IsRead (S.left source.old) (S.left source.new) (S.faults source.new)) }
     ensures full { IfErr result (λ fault. IfCountFull fault (IsFull (S.left source.old) (S.faults source.new))) }
+    ensures never_stopped { IfErr result NeverStopped }
     ensures rest { IsRest (S.left source.old) (S.left source.new) }
     ensures ranks { world.new.ranks ≡ world.old.ranks }
 {

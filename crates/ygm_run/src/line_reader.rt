@@ -1,7 +1,7 @@
 //! The lines of a source.
 ghost use Rattle.std.specs.Prelude.{◌≡◌, ◌+◌, ◌-◌, ◌^◌, ◌<◌, ◌≤◌, [], length, min, false, is_some, Some, IfSome, IfOk, IsErrOf};
 ghost use Rattle.ygm_io.specs.Content.{NothingLeft};
-ghost use Rattle.ygm_io.specs.Faults.{Rose};
+ghost use Rattle.ygm_io.specs.Rising.{Rose};
 ghost use Rattle.ygm_run.specs.Lines.{LacksLf, StartsTooLong, max_line};
 ghost use Rattle.ygm_run.specs.Turns.{FirstTaken, PieceBehind, PieceTaken, RawLineTaken, IfLine, OnLine, UnlessLine, OnMore, OnEnd, IfTooLong, UnlessReadFault, EndsOrFails, is_last, to_come, lines_to_come};
 

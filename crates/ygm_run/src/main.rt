@@ -4,6 +4,7 @@
 ghost use Rattle.std.specs.Prelude.{◌≡◌, ◌⊎◌, IfErr};
 
 mod input;
+pub mod line_laws;
 pub mod line_reader;
 pub mod note;
 mod pieces;

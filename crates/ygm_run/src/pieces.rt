@@ -1,7 +1,7 @@
 //! The bytes that were read and not given yet.
 ghost use Rattle.std.specs.Prelude.{◌≡◌, ◌+◌, ◌<◌, ◌≤◌, ℕ, List, [], ◌∷◌, ◌++◌, length, take, drop, IfSome, IfNone, IfOk, OnOk, OnErr};
 ghost use Rattle.ygm_io.specs.Content.{TakenFrom, NothingLeft};
-ghost use Rattle.ygm_io.specs.Faults.{Rose};
+ghost use Rattle.ygm_io.specs.Rising.{Rose};
 ghost use Rattle.ygm_run.specs.Lines.{LacksLf, StartsTooLong, text_of, max_line};
 ghost use Rattle.ygm_run.specs.Pieces.{AreGathered, AreLastLine, AreOpen, StartsWithLine, held_in};
 

@@ -1,10 +1,10 @@
 //! The top call: from words to a text.
 ghost use Rattle.std.specs.Prelude.{◌≡◌, ◌<◌, ◌≤◌, ◌^◌, ℕ, List, [], Ok, Err, Some, IfErr, OnOk, length, map, slice_get, take};
 ghost use Rattle.ygm_io.specs.Content.{AppendedTo, NothingLeft};
-ghost use Rattle.ygm_io.specs.Faults.{Rose};
-ghost use Rattle.ygm_run.specs.Ending.{EndsBy, FrontAppended, IsDoneIfMemory, IsNoted, OnDone, OnWriteFault, RunEnds, UnlessNoMemory, UnlessWritten, status_of};
-ghost use Rattle.ygm_run.specs.Inputs.{AllRead, AreRests, IsFullAtRank, IsLowestFault};
-ghost use Rattle.ygm_run.specs.Job.{AreGood, AreTold, lines_of_each, most_letters};
+ghost use Rattle.ygm_io.specs.Rising.{Rose};
+ghost use Rattle.ygm_run.specs.Ending.{EndsBy, FrontAppended, IsDoneIfMemory, IsNoted, JobEnds, OnDone, OnWriteFault, RunEnds, UnlessNoMemory, UnlessUnopened, UnlessWritten, status_of};
+ghost use Rattle.ygm_run.specs.Inputs.{AreRests};
+ghost use Rattle.ygm_run.specs.Job.{AreGood, AreTold, OfText, lines_of_each, most_letters};
 ghost use Rattle.ygm_run.specs.Notes.{FileIsBelow, note_text};
 ghost use Rattle.ygm_run.specs.Tally.{tally_text};
 ghost use Rattle.ygm_run.specs.Words.{named, order_of, texts_of};
@@ -47,6 +47,7 @@ fn open_all<F: Files>(
     ensures cause { IfErr result (EndsBy (λ _. ⊥)
         (λ file. (file ≡ length sources.new.items) × (file < length names.now) × Rose (F.faults files.old) (F.faults files.new)) (λ _ _. ⊥) (λ _ _. ⊥) ⊥ ⊥) }
     ensures file { IfErr result (FileIsBelow (length names.now)) }
+    ensures opens_stand { OnOk result (F.faults files.new ≡ F.faults files.old) }
     ensures content_stands { (name : List ℕ) → F.content files.new name ≡ F.content files.old name }
 {
     for (file, name) in names.iter().enumerate() {
@@ -87,6 +88,7 @@ fn write_text<O: Sink, N: Sink>(text: &[u8], out: &mut O, notes: &mut N) -> Stat
     ensures written { UnlessWritten result ⊥ }
     ensures done { OnDone result (AppendedTo text.now (O.holds out.old) (O.holds out.new)) }
     ensures front { OnWriteFault result (FrontAppended text.now (O.holds out.old) (O.holds out.new)) }
+    ensures writes_stand { OnDone result (O.faults out.new ≡ O.faults out.old) }
     ensures noted { (names : List (List ℕ)) → IsNoted (note_text result names) (N.holds notes.old) (N.holds notes.new) (N.faults notes.old) (N.faults notes.new) }
 {
     match write_all(out, text) {
@@ -108,14 +110,10 @@ fn finish<S: Source, O: Sink, N: Sink>(
     requires some { 1 ≤ length sources.old }
     requires few { length sources.old ≤ 32 }
     requires fresh { (rank : ℕ) (source : S) → slice_get sources.old rank ≡ Some source → S.faults source ≡ 0 }
-    ensures ends { EndsBy (λ _. ⊥) (λ _. ⊥) (IsFullAtRank S.faults (map S.left sources.old) sources.new)
-        (IsLowestFault S.left S.faults (map S.left sources.old) sources.new)
-        (AllRead S.left S.faults (map S.left sources.old) sources.new × Rose (O.faults out.old) (O.faults out.new))
-        (AllRead S.left S.faults (map S.left sources.old) sources.new) result }
-    ensures done { OnDone result ((bytes : List (List ℕ)) → AreTold (map S.left sources.old) bytes
-        → AppendedTo (tally_text (lines_of_each bytes)) (O.holds out.old) (O.holds out.new)) }
-    ensures front { OnWriteFault result ((bytes : List (List ℕ)) → AreTold (map S.left sources.old) bytes
-        → FrontAppended (tally_text (lines_of_each bytes)) (O.holds out.old) (O.holds out.new)) }
+    ensures ends { JobEnds S.left S.faults (map S.left sources.old) sources.new (Rose (O.faults out.old) (O.faults out.new)) result }
+    ensures done { OnDone result (OfText (map S.left sources.old) (λ text. AppendedTo text (O.holds out.old) (O.holds out.new))) }
+    ensures front { OnWriteFault result (OfText (map S.left sources.old) (λ text. FrontAppended text (O.holds out.old) (O.holds out.new))) }
+    ensures writes_stand { OnDone result (O.faults out.new ≡ O.faults out.old) }
     ensures nothing_written { UnlessWritten result (out.new ≡ out.old) }
     ensures rests { AreRests S.left (map S.left sources.old) sources.new }
     ensures noted { (names : List (List ℕ)) → IsNoted (note_text result names) (N.holds notes.old) (N.holds notes.new) (N.faults notes.old) (N.faults notes.new) }
@@ -136,10 +134,10 @@ fn run_tally<F: Files, O: Sink, N: Sink>(
 ) -> Ended<F::Src>
     requires some { 1 ≤ length names.now }
     requires few { length names.now ≤ 32 }
-    ensures done { OnDone result.status ((bytes : List (List ℕ)) → AreTold (map (F.content files.old) (texts_of names.now)) bytes
-        → AppendedTo (tally_text (lines_of_each bytes)) (O.holds out.old) (O.holds out.new)) }
-    ensures front { OnWriteFault result.status ((bytes : List (List ℕ)) → AreTold (map (F.content files.old) (texts_of names.now)) bytes
-        → FrontAppended (tally_text (lines_of_each bytes)) (O.holds out.old) (O.holds out.new)) }
+    ensures done { OnDone result.status (OfText (map (F.content files.old) (texts_of names.now)) (λ text. AppendedTo text (O.holds out.old) (O.holds out.new))) }
+    ensures front { OnWriteFault result.status (OfText (map (F.content files.old) (texts_of names.now)) (λ text. FrontAppended text (O.holds out.old) (O.holds out.new))) }
+    ensures opens_stand { UnlessUnopened result.status (F.faults files.new ≡ F.faults files.old) }
+    ensures writes_stand { OnDone result.status (O.faults out.new ≡ O.faults out.old) }
     ensures nothing_written { UnlessWritten result.status (out.new ≡ out.old) }
     ensures ends { RunEnds F.Src.left F.Src.faults (Ok (texts_of names.now)) (F.content files.old) result.sources.items
         (Rose (F.faults files.old) (F.faults files.new)) (Rose (O.faults out.old) (O.faults out.new)) result.status }
@@ -188,6 +186,9 @@ pub fn run<F: Files, O: Sink, N: Sink>(
     // Why the run ended so: each refusal, in their order, with its cause, and none without.
     ensures ends { RunEnds F.Src.left F.Src.faults (order_of (texts_of words.now)) (F.content files.old) result.sources.items
         (Rose (F.faults files.old) (F.faults files.new)) (Rose (O.faults out.old) (O.faults out.new)) result.status }
+    // Want of memory aside, no open failed that isn't told; and no write failed where all was written.
+    ensures opens_stand { UnlessUnopened result.status (F.faults files.new ≡ F.faults files.old) }
+    ensures writes_stand { OnDone result.status (O.faults out.new ≡ O.faults out.old) }
     // Refused words are always answered so, even where memory is wanting.
     ensures usage { IfErr (order_of (texts_of words.now)) (λ kind. result.status ≡ Status.Usage kind) }
     ensures no_file_for_refused_words { IfErr (order_of (texts_of words.now)) (λ _. files.new ≡ files.old) }

@@ -1,11 +1,11 @@
 //! The job `tally`: how often each line stands in the files.
 ghost use Rattle.std.specs.Prelude.{◌≡◌, ◌<◌, ◌≤◌, ℕ, List, [], Some, map, length, slice_get, slice_index_or, IfOk, IfErr, OnOk};
 ghost use Rattle.std.specs.Option.{option_map};
+ghost use Rattle.comm_rank.specs.Fault.{NeverStopped};
 ghost use Rattle.ygm_run.specs.Carried.{AreReady, Carried};
-ghost use Rattle.ygm_run.specs.Ending.{StopsBy, fault_of};
-ghost use Rattle.ygm_run.specs.Inputs.{AllRead, AreRests, IsFullAtRank, IsLowestFault};
-ghost use Rattle.ygm_run.specs.Job.{AreTold, lines_of_each};
-ghost use Rattle.ygm_run.specs.Tally.{tally_text};
+ghost use Rattle.ygm_run.specs.Ending.{IsFaultOf, JobStops};
+ghost use Rattle.ygm_run.specs.Inputs.{AllRead, AreRests};
+ghost use Rattle.ygm_run.specs.Job.{AreTold, OfText, lines_of_each};
 
 use crate::input::read_file;
 use crate::status::InputFault;
@@ -40,13 +40,13 @@ impl From<AllocError> for JobFault {
 impl JobFault {
     // A rank's fault as one of the job.
     fn of_rank(rank: u32, fault: CommFault) -> JobFault
-        ensures { result ≡ fault_of rank fault }
+        requires { NeverStopped fault }
+        ensures { IsFaultOf rank fault result }
     {
         match fault {
             CommFault::CountFull(at) => JobFault::CountFull { rank, at },
-            // No call on a world answers it: a rank that raises the stop has ended the run.
-            CommFault::Stopped => JobFault::NoMemory,
             CommFault::NoMemory => JobFault::NoMemory,
+            CommFault::Stopped => unreachable!(),
         }
     }
 }
@@ -69,8 +69,7 @@ fn read_all<S: Source>(alloc: Global, world: &mut World, sources: &mut [S]) -> R
     ensures sent { OnOk result ((bytes : List (List ℕ)) → AreTold (map S.left sources.old) bytes
         → Carried (λ rank. slice_index_or (lines_of_each bytes) rank []) world.old.ranks world.new.comms.items world.new.links) }
     ensures read { OnOk result (AllRead S.left S.faults (map S.left sources.old) sources.new) }
-    ensures cause { IfErr result (StopsBy (IsFullAtRank S.faults (map S.left sources.old) sources.new)
-        (IsLowestFault S.left S.faults (map S.left sources.old) sources.new)) }
+    ensures cause { IfErr result (JobStops S.left S.faults (map S.left sources.old) sources.new) }
     ensures rests { AreRests S.left (map S.left sources.old) sources.new }
     ensures ranks { world.new.ranks ≡ world.old.ranks }
 {
@@ -93,10 +92,9 @@ pub(crate) fn tally<S: Source>(alloc: Global, sources: &mut [S]) -> Result<Vec<u
     requires some { 0 < length sources.old }
     requires few { length sources.old ≤ 32 }
     requires fresh { (rank : ℕ) (source : S) → slice_get sources.old rank ≡ Some source → S.faults source ≡ 0 }
-    ensures text { IfOk result (λ text. (bytes : List (List ℕ)) → AreTold (map S.left sources.old) bytes → text.items ≡ tally_text (lines_of_each bytes)) }
+    ensures text { IfOk result (λ text. OfText (map S.left sources.old) (λ all. text.items ≡ all)) }
     ensures read { OnOk result (AllRead S.left S.faults (map S.left sources.old) sources.new) }
-    ensures cause { IfErr result (StopsBy (IsFullAtRank S.faults (map S.left sources.old) sources.new)
-        (IsLowestFault S.left S.faults (map S.left sources.old) sources.new)) }
+    ensures cause { IfErr result (JobStops S.left S.faults (map S.left sources.old) sources.new) }
     ensures rests { AreRests S.left (map S.left sources.old) sources.new }
 {
     let Ok(layout) = Layout::new(sources.len() as u32, 1) else {

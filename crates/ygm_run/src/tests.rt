@@ -230,6 +230,24 @@ fn no_open_is_tried_after_the_first_that_fails(rt: HostRuntime) -> Result<(), Fa
     ends_at(&rt, &[1, 2], 1)
 }
 
+// A run over two files of which these reads of the second fail ends so. Its third open is to fail, and none does.
+fn opened_once(rt: &(impl Abort + AllocGlobal), fails: &[u64], status: Status) -> Result<(), Fail> {
+    let mut files = two_files(rt.alloc(), fails)?;
+    files.fail_open(2)?;
+    let out = MemSink::new(rt.alloc(), &[], 3)?;
+    let outcome = tally(rt.alloc(), &mut files, &["tally", "f0", "f1"], out)?;
+    assert_eq!(rt; outcome.ended.status, status);
+    assert_eq!(rt; outcome.ended.sources.len(), 2);
+    assert_eq!(rt; files.faults(), 0);
+    Ok(())
+}
+
+#[test]
+fn each_file_is_opened_once(rt: HostRuntime) -> Result<(), Fail> {
+    opened_once(&rt, &[], Status::Done)?;
+    opened_once(&rt, &[0], Status::ReadFault { rank: 1 })
+}
+
 #[test]
 fn no_read_is_tried_behind_a_bad_line(rt: HostRuntime) -> Result<(), Fail> {
     let alloc = rt.alloc();

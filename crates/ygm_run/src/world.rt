@@ -1,9 +1,9 @@
 //! Ranks on one thread, each with its part of a counting set.
-ghost use Rattle.std.specs.Prelude.{◌≡◌, ◌<◌, ◌≤◌, ◌+◌, ◌^◌, ℕ, List, [], ◌++◌, length, slice_index, IfOk, IfErr, OnOk};
+ghost use Rattle.std.specs.Prelude.{◌≡◌, ◌<◌, ◌≤◌, ◌^◌, ℕ, List, [], ◌++◌, length, slice_index, IfOk, IfErr, OnOk};
 ghost use Rattle.ygm_route.specs.declared.scheme.Scheme.TheVariants.{Direct};
 ghost use Rattle.comm_rank.specs.declared.fault.CommFault.TheVariants.{NoMemory};
 ghost use Rattle.comm_rank.specs.Fault.{IsFullAt, NeverStopped};
-ghost use Rattle.ygm_run.specs.Carried.{AreFresh, AreReady, Carried, HasSettled, IsQuiet, kept, sent_counts, with_line};
+ghost use Rattle.ygm_run.specs.Carried.{AreFresh, AreReady, Carried, HasSettled, IsQuiet, LineSent, kept, sent_counts};
 ghost use Rattle.ygm_run.specs.Tally.{AreCounts, all_lines, pairs_of, tally_text};
 
 use crate::tally_text::table_of;
@@ -72,11 +72,7 @@ impl World {
         requires below { rank < self.old.ranks }
         requires short { length line.now ≤ 1000000 }
         requires ready { AreReady self.old.comms.items self.old.links }
-        ensures ready { OnOk result (AreReady self.new.comms.items self.new.links) }
-        ensures carried { OnOk result ((own : ℕ → List (List ℕ)) → Carried own self.old.ranks self.old.comms.items self.old.links
-            → Carried (with_line own rank line.now) self.old.ranks self.new.comms.items self.new.links) }
-        ensures counted { OnOk result (slice_index (sent_counts self.new.comms.items) rank ≡ slice_index (sent_counts self.old.comms.items) rank + 1) }
-        ensures bound { OnOk result (slice_index (sent_counts self.new.comms.items) rank ≤ 2 ^ 56) }
+        ensures sent { OnOk result (LineSent self.old.ranks rank line.now self.old.comms.items self.new.comms.items self.old.links self.new.links) }
         ensures cause { IfErr result (IsFullAt (slice_index (sent_counts self.old.comms.items) rank) (2 ^ 56)) }
         ensures never_stopped { IfErr result NeverStopped }
         ensures ranks { self.new.ranks ≡ self.old.ranks }
@@ -101,11 +97,7 @@ impl World {
         requires below { rank < self.old.ranks }
         requires short { length line.now ≤ 1000000 }
         requires ready { AreReady self.old.comms.items self.old.links }
-        ensures ready { OnOk result (AreReady self.new.comms.items self.new.links) }
-        ensures carried { OnOk result ((own : ℕ → List (List ℕ)) → Carried own self.old.ranks self.old.comms.items self.old.links
-            → Carried (with_line own rank line.now) self.old.ranks self.new.comms.items self.new.links) }
-        ensures counted { OnOk result (slice_index (sent_counts self.new.comms.items) rank ≡ slice_index (sent_counts self.old.comms.items) rank + 1) }
-        ensures bound { OnOk result (slice_index (sent_counts self.new.comms.items) rank ≤ 2 ^ 56) }
+        ensures sent { OnOk result (LineSent self.old.ranks rank line.now self.old.comms.items self.new.comms.items self.old.links self.new.links) }
         ensures cause { IfErr result (IsFullAt (slice_index (sent_counts self.old.comms.items) rank) (2 ^ 56)) }
         ensures never_stopped { IfErr result NeverStopped }
         ensures ranks { self.new.ranks ≡ self.old.ranks }

@@ -1,6 +1,7 @@
 ghost use Rattle.std.specs.Prelude.{None};
 
 use super::*;
+use std::process::Abort;
 use std::test::Fail;
 use ygm_io::Failed;
 
@@ -154,9 +155,9 @@ fn lines_before_a_fault_of_reading_are_given(rt: HostRuntime) -> Result<(), Fail
     Ok(())
 }
 
-#[test]
-fn a_turn_reads_at_most_once(rt: HostRuntime) -> Result<(), Fail> {
-    let mut source = Pieced::new(b"ab\nc", 1, 0);
+/// Reads a text in pieces of a size, with at most one read in each turn.
+fn one_read_a_turn(rt: &(impl Abort + AllocGlobal), text: &[u8], size: usize) -> Result<(), Fail> {
+    let mut source = Pieced::new(text, size, 0);
     let mut reader = LineReader::new(rt.alloc())?;
     for _ in 0..TURNS {
         if reader.done() {
@@ -164,9 +165,22 @@ fn a_turn_reads_at_most_once(rt: HostRuntime) -> Result<(), Fail> {
         }
         let before = source.reads;
         reader.turn(&mut source)?;
-        assert!(rt; source.reads <= before.saturating_add(1));
+        assert!(rt;
+            source.reads <= before.saturating_add(1),
+            "{size} bytes in a piece"
+        );
     }
     assert!(rt; reader.done());
+    Ok(())
+}
+
+#[test]
+fn a_turn_reads_at_most_once(rt: HostRuntime) -> Result<(), Fail> {
+    let long = vec![in rt.alloc(); b'x'; 70_000]?;
+    for size in [1, 2, 3, 70_000] {
+        one_read_a_turn(&rt, b"ab\nc", size)?;
+        one_read_a_turn(&rt, &long, size)?;
+    }
     Ok(())
 }
 

@@ -1,5 +1,5 @@
 use Rattle.std.proofs.Common.{◌≡◌, ◌<◌, ◌+◌, ◌∙◌, ℕ, get_or, refl, sym, subst, arith, rules}
-use Rattle.std.proofs.lemmas.Result.{IfErr-weaker}
+use Rattle.std.proofs.lemmas.Result.{IfErr-weaker, err_from_is_err_and}
 use Rattle.world_core.specs.World.{log_of}
 use Rattle.world_core.proofs.Lists.{prefix_refl}
 use Rattle.comm_rank.specs.Settled.{IsNear, RoundMoves}
@@ -8,7 +8,7 @@ use Rattle.comm_rank.proofs.Rounds.{near_at_first, round_more, rounds_enough, st
 use Rattle.comm_rank.proofs.Settling.{few_to_one, has_run}
 use Rattle.comm_rank.proofs.Keeping.{none_lost_by_failed, none_lost_by_ranks}
 use Rattle.comm_rank.proofs.PlainTurns.{straight, there}
-use Rattle.comm_rank.proofs.Stops.{same_stops_more, stopped_earlier}
+use Rattle.comm_rank.proofs.Stops.{halted_first, if_stopped, met_none, met_then, raised_earlier, raised_later, same_stops_more, sees_by, sees_earlier, stopped_if_raised}
 use Rattle.comm_rank.proofs.barrier.settle.Goals as goal
 
 pub loop-init : goal.loop-init
@@ -16,6 +16,8 @@ loop-init g c = record {
   near = near_at_first c.args.comms.now c.args.links.now c.args.caller;
   advanced = has_advanced_none g.H.Handler.apply c.args.comms.now c.args.links.now;
   ranks = c.requires.ranks;
+  begun = λ first. (refl, refl);
+  quiet = λ later some. absurd (omega (arith, later));
   halts = refl;
   stops = λ rank. refl;
   same_ranks = same_ranks_none c.args.comms.now;
@@ -58,7 +60,32 @@ returns-clause-none_lost g c =
 
 pub returns-in_err-moved-clause-stopped_before : goal.returns-in_err-moved-clause-stopped_before
 returns-in_err-moved-clause-stopped_before g c =
-    IfErr-weaker c.from_residual.result _ _ (stopped_earlier c.args.links.now c.loop.links c.loop.invariant.stops) (search rules)
+    let inv = c.loop.invariant in
+    let earlier = raised_earlier c.args.links.now c.loop.links inv.same_links.layout inv.stops in
+    IfErr-weaker c.from_residual.result _ _ (λ fault. if_stopped fault (λ some. stopped_if_raised c.args.links.now (earlier some))) (search rules)
+
+pub returns-in_err-moved-clause-sees_the_stop : goal.returns-in_err-moved-clause-sees_the_stop
+returns-in_err-moved-clause-sees_the_stop g c =
+    let inv = c.loop.invariant in
+    let given = err_from_is_err_and c.from_residual.result c.from_residual.ensures.1 in
+    sees_earlier c.args.links.now c.loop.links inv.same_links.layout inv.stops c.from_residual.result
+    (met_then c.loop.links c.round-moved.result c.from_residual.result _ given.0 c.in_err-moved.was given.1 given.2 c.round-moved.ensures.sees_the_stop)
+
+pub returns-in_err-moved-clause-does_nothing_when_halted : goal.returns-in_err-moved-clause-does_nothing_when_halted
+returns-in_err-moved-clause-does_nothing_when_halted g c =
+    let inv = c.loop.invariant in
+    halted_first c.args.links.now c.loop.links inv.same_links.layout inv.stops c.args.comms.now c.loop.comms c.round-moved.new.comms c.round-moved.new.links c.loop.counter inv.quiet inv.begun
+    c.from_residual.result (search rules) (search rules)
+
+pub returns-then-not-branch-clause-sees_the_stop : goal.returns-then-not-branch-clause-sees_the_stop
+returns-then-not-branch-clause-sees_the_stop g c =
+    let inv = c.loop.invariant in
+    sees_by c.args.links.now _ (λ some. absurd (met_none c.loop.links c.round-moved.result c.in_ok-moved.field-0 c.in_ok-moved.was c.round-moved.ensures.sees_the_stop
+    (raised_later c.args.links.now c.loop.links inv.same_links.layout inv.stops some)))
+
+pub returns-clause-sees_the_stop : goal.returns-clause-sees_the_stop
+returns-clause-sees_the_stop g c =
+    sees_by c.args.links.now _ (λ some. absurd (c.loop.invariant.quiet (omega (arith, c.loop-test.false)) some))
 
 pub returns-then-not-branch-clause-stops_stand : goal.returns-then-not-branch-clause-stops_stand
 returns-then-not-branch-clause-stops_stand g c =
@@ -110,6 +137,8 @@ loop-preserved g c =
       near = round_more a b d x y z c.args.caller c.loop.counter c.in_ok-moved.field-0 e.same_links.layout within inv.near moves;
       advanced = λ other. has_advanced_more apply a b d x y z inv.same_ranks inv.all other (inv.advanced other) (e.advanced other);
       ranks = e.ranks;
+      begun = λ first. absurd (omega (arith, first));
+      quiet = λ later some. met_none y c.round-moved.result c.in_ok-moved.field-0 c.in_ok-moved.was c.round-moved.ensures.sees_the_stop (raised_later x y inv.same_links.layout inv.stops some);
       halts = e.halts_stand ∙ inv.halts;
       stops = same_stops_more c.args.links.now y z inv.stops e.stops_stand;
       same_ranks = same_ranks_more apply a b d x y z inv.same_ranks inv.all e.same_ranks;

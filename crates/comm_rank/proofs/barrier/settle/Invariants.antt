@@ -1,6 +1,6 @@
-use Rattle.std.proofs.Common.{◌≡◌, ℕ, length}
+use Rattle.std.proofs.Common.{◌≡◌, ◌<◌, ℕ, length}
 use Rattle.world_core.specs.Plain.{told_by}
-use Rattle.world_core.specs.Post.{SameStops}
+use Rattle.world_core.specs.Post.{SameStops, SomeRaised}
 use Rattle.comm_rank.specs.Settled.{AreRanks, AreSameLinks, AreSameRanks, HasAdvanced, IsNear, LogsGrow}
 use Rattle.comm_rank.proofs.barrier.settle.Given as goal
 
@@ -10,6 +10,8 @@ invariant-loop g l = record {
   near : IsNear l.counter l.fn.comms l.comms l.fn.links l.links l.caller;
   advanced : (other : ℕ) → HasAdvanced g.H.Handler.apply l.fn.comms l.comms l.fn.links l.links other;
   ranks : AreRanks g.H.Handler.apply g.H.Handler.start l.comms l.links;
+  begun : l.counter ≡ 0 → (l.comms ≡ l.fn.comms) × (l.links ≡ l.fn.links);
+  quiet : 0 < l.counter → SomeRaised (told_by l.fn.links) → ⊥;
   halts : l.links.halts ≡ l.fn.links.halts;
   stops : SameStops (told_by l.fn.links) (told_by l.links);
   same_ranks : AreSameRanks l.fn.comms l.comms;

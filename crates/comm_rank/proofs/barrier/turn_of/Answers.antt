@@ -1,8 +1,8 @@
 use Rattle.std.proofs.Common.{get_or, sym, rules}
-use Rattle.std.proofs.lemmas.Result.{IfErr-weaker}
+use Rattle.std.proofs.lemmas.Result.{IfErr-weaker, err_from_is_err_and}
 use Rattle.comm_rank.proofs.Moving.{advanced_after, ranks_after, same_ranks_after, turn_moves}
-use Rattle.comm_rank.proofs.PlainTurns.{agrees_here, direct_before, failed_at, few_sent, logs_grow, mine, serves, there, turn_at}
-use Rattle.comm_rank.proofs.Stops.{stopped_by}
+use Rattle.comm_rank.proofs.PlainTurns.{agrees_here, direct_before, failed_at, few_sent, halted_at, logs_grow, mine, serves, there, turn_at}
+use Rattle.comm_rank.proofs.Stops.{met_then, raised_by}
 use Rattle.comm_rank.proofs.barrier.turn_of.Goals as goal
 
 pub turn-requires-clause-going : goal.turn-requires-clause-going
@@ -36,8 +36,22 @@ returns-in_err-turn-clause-failed g c =
     (there g.H.Handler.apply g.H.Handler.start c.args.comms.now c.args.links.now c.args.rank c.requires.ranks c.requires.within c.index-comms-rank.result) c.requires.ranks c.turn.ensures.same_rank
     c.from_residual.result c.turn.ensures.same_post c.turn.ensures.other_stops (search rules) (search rules) (search rules) (search rules) (search rules) (search rules) (search rules) (search rules)
 
-pub returns-in_err-turn-clause-stopped_before : goal.returns-in_err-turn-clause-stopped_before
-returns-in_err-turn-clause-stopped_before g c = IfErr-weaker c.from_residual.result _ _ (stopped_by c.args.links.now) (search rules)
+pub returns-in_err-turn-clause-raised_before : goal.returns-in_err-turn-clause-raised_before
+returns-in_err-turn-clause-raised_before g c = IfErr-weaker c.from_residual.result _ _ (raised_by c.args.links.now) (search rules)
+
+pub returns-in_err-turn-clause-sees_the_stop : goal.returns-in_err-turn-clause-sees_the_stop
+returns-in_err-turn-clause-sees_the_stop g c =
+    let given = err_from_is_err_and c.from_residual.result c.from_residual.ensures.1 in
+    met_then c.args.links.now c.turn.result c.from_residual.result _ given.0 c.in_err-turn.was given.1 given.2 c.turn.ensures.sees_the_stop
+
+pub returns-in_err-turn-clause-does_nothing_when_halted : goal.returns-in_err-turn-clause-does_nothing_when_halted
+returns-in_err-turn-clause-does_nothing_when_halted g c =
+    halted_at g.H.Handler.apply g.H.Handler.start c.args.comms.now c.args.links.now c.turn.new.post c.args.rank _ c.turn.new.self c.requires.within
+    (there g.H.Handler.apply g.H.Handler.start c.args.comms.now c.args.links.now c.args.rank c.requires.ranks c.requires.within c.index-comms-rank.result) c.requires.ranks c.turn.ensures.same_rank
+    c.from_residual.result c.turn.ensures.same_post (search rules) (search rules)
+
+pub returns-clause-sees_the_stop : goal.returns-clause-sees_the_stop
+returns-clause-sees_the_stop g c = λ other served raised. absurd (let met = c.turn.ensures.sees_the_stop other served raised in let was = c.in_ok-turn.was in cc)
 
 pub returns-clause-advanced : goal.returns-clause-advanced
 returns-clause-advanced g c =

@@ -22,9 +22,9 @@ loop-to-preserved g c =
     let serves = i.moved.post.same.serves in
     let others = c.put_to.ensures.others in
     let Q : Bool → Type 0 = λ t. PutUntil t here to b mid new in
-    let first : FirstFull b old new c.if-placed.full × Below (to + 1) c.if-placed.full = elim c.if-placed.branch [
-      | then-placed w ↦ first_next_full here to a b old mid new m.0 serves m.1 others i.later c.loop-to.full c.if-placed.full (subst Q w.if-placed.true until) i.first i.below (w.full-is ∙ w.or-full.ensures)
-      | else-placed w ↦ first_next here to a b old mid new m.0 serves m.1 others i.later c.loop-to.full c.if-placed.full (subst Q w.if-placed.false until) i.first i.below w.full-is
+    let first : FirstFull c.args.ranks b old new c.if-placed.full × Below (to + 1) c.if-placed.full = elim c.if-placed.branch [
+      | then-placed w ↦ first_next_full here to a b old mid new m.0 serves m.1 others i.later c.args.ranks c.loop-to.full c.if-placed.full c.loop-to-test.true (subst Q w.if-placed.true until) i.first i.below (w.full-is ∙ w.or-full.ensures)
+      | else-placed w ↦ first_next here to a b old mid new m.0 serves m.1 others i.later c.args.ranks c.loop-to.full c.if-placed.full (subst Q w.if-placed.false until) i.first i.below w.full-is
     ] in
     record {
       placed = i.placed ++ m.0;

@@ -13,6 +13,6 @@ invariant-loop-to g l = record {
   count : l.put ≡ min (length placed) (2 ^ 64 - 1);
   done : (d : ℕ) → d < l.to → NoneOrFull l.here d l.held.lists (g.P.Post.told l.fn.post) (g.P.Post.told l.post);
   later : (d : ℕ) → l.to ≤ d → (g.P.Post.told l.post).fulls d ≡ (g.P.Post.told l.fn.post).fulls d;
-  first : FirstFull l.held.lists (g.P.Post.told l.fn.post) (g.P.Post.told l.post) l.full;
+  first : FirstFull l.ranks l.held.lists (g.P.Post.told l.fn.post) (g.P.Post.told l.post) l.full;
   below : Below l.to l.full;
 }

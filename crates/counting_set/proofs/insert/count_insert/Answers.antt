@@ -1,4 +1,4 @@
-use Rattle.std.proofs.Common.{◌≡◌, ℕ, ◌∷◌, [], ◌++◌, List, OnOk, sym, ap, ◌∙◌, subst}
+use Rattle.std.proofs.Common.{◌≡◌, ◌∷◌, [], ◌++◌, List, OnOk, sym, ap, ◌∙◌, subst}
 use Rattle.msg_codec.specs.ItemCount.{spelled_item_count}
 use Rattle.world_core.specs.declared.entry.Entry.{Entry}
 use Rattle.comm_rank.specs.Rank.{sent_to}

@@ -1,12 +1,11 @@
-use Rattle.std.proofs.Common.{◌≡◌, ◌<◌, ◌^◌, ◌∙◌, [], false, length, refl, ap, sym, subst, arith}
-use Rattle.std.proofs.lemmas.Bool.{false≢true}
+use Rattle.std.proofs.Common.{◌≡◌, None, ◌<◌, ◌^◌, ◌∙◌, [], false, length, refl, ap, sym, subst, arith}
 use Rattle.std.proofs.lemmas.Result.{err_from_is_err_and}
 use Rattle.ygm_run.specs.Fed.{EndedWith, Fed}
 use Rattle.ygm_run.specs.Inputs.{IsFull, good_lines}
 use Rattle.ygm_run.specs.Lines.{raw_lines}
 use Rattle.ygm_run.specs.Reading.{Reading}
 use Rattle.ygm_run.specs.Turns.{to_come}
-use Rattle.ygm_run.proofs.Feeding.{fed_nothing, fed_more, from_start, was_read, rest_none, rest_more, full_so, told_so, many_good, all_sent_of}
+use Rattle.ygm_run.proofs.Feeding.{fed_nothing, not_ended, fed_more, from_start, was_read, rest_none, rest_more, full_so, told_so, many_good, all_sent_of}
 use Rattle.ygm_run.proofs.input.read_file.Goals as goal
 
 pub loop-fault-init : goal.loop-fault-init
@@ -20,7 +19,7 @@ loop-fault-init g c =
       sent = omega (arith, c.requires.unsent, ap (λ (r : Reading). r.given) fresh);
       bound = omega (arith, ap (λ (r : Reading). r.given) fresh);
       going_on = λ _. c.requires.fresh;
-      ended = λ done. absurd (false≢true (sym (ap (λ (r : Reading). r.done) fresh) ∙ done));
+      ended = not_ended None c.in_ok-reader.reader left 0 (g.S.Source.faults c.args.source.now) (ap (λ (r : Reading). r.done) fresh);
       rest = rest_none left;
     }
 

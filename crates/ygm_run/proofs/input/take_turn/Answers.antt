@@ -10,7 +10,7 @@ returns-in_ok-add_line-in-Ok-Line-clause-fed g c =
     fed_line c.args.world.now.ranks c.args.rank _ _ _ _ c.args.reader.now c.turn.new.self (g.S.Source.left c.args.source.now) (g.S.Source.left c.turn.new.source) c.in-Ok-Line.line
     (rw c.in-Ok-Line.field-0-is at c.in-Ok-Line.ensures.raw_line) given
     (subst (λ (line : List ℕ). (own : ℕ → List (List ℕ)) → Carried own c.args.world.now.ranks c.args.world.now.comms.items c.args.world.now.links → Carried (with_line own c.args.rank line) c.args.world.now.ranks c.add_line.new.self.comms.items c.add_line.new.self.links)
-    c.as_slice.ensures.bytes c.in_ok-add_line-in-Ok-Line.ensures.carried)
+    c.as_slice.ensures.bytes c.in_ok-add_line-in-Ok-Line.ensures.sent.carried)
 
 pub returns-in-Ok-More-clause-fed : goal.returns-in-Ok-More-clause-fed
 returns-in-Ok-More-clause-fed g c =

@@ -1,7 +1,7 @@
 use Rattle.std.proofs.Common.{◌++◌, ◌∷◌, [], take, ap, sym, ◌∙◌, append_assoc}
 use Rattle.std.proofs.lemmas.List.{map-append}
+use Rattle.world_core.proofs.Steps.{taken_more}
 use Rattle.ygm_run.specs.Tally.{pairs_of}
-use Rattle.ygm_run.proofs.Worlds.{take_next}
 use Rattle.ygm_run.proofs.world.gather.Goals as goal
 
 pub loop-k-preserved : goal.loop-k-preserved
@@ -10,4 +10,4 @@ loop-k-preserved c =
     ∙ map-append _ c.loop-k.entries.items (c.entry_here.result ∷ [])
     ∙ ap (λ w. w ++ (c.entry_here.result.0.now, c.entry_here.result.1) ∷ []) c.loop-k.invariant
     ∙ append_assoc (pairs_of c.args.entries.now.items) (take c.loop-k.k c.args.shard.now) ((c.entry_here.result.0.now, c.entry_here.result.1) ∷ [])
-    ∙ ap (λ w. pairs_of c.args.entries.now.items ++ w) (sym (take_next c.args.shard.now c.loop-k.k _ c.entry_here.ensures))
+    ∙ ap (λ w. pairs_of c.args.entries.now.items ++ w) (sym (taken_more c.args.shard.now c.loop-k.k _ c.entry_here.ensures))

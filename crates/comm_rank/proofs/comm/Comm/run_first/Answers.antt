@@ -1,9 +1,10 @@
-use Rattle.std.proofs.Common.{◌≡◌, ◌∙◌, [], subst, refl, arith, rules}
+use Rattle.std.proofs.Common.{◌≡◌, ◌<◌, ◌+◌, ◌∙◌, IfErr, [], length, subst, refl, rules}
 use Rattle.std.specs.List.{AllByRecursion}
 use Rattle.std.proofs.lemmas.Result.{IfErr-weaker}
 use Rattle.msg_codec.specs.Letter.{letter_of}
+use Rattle.comm_rank.specs.Fault.{IfCountFull}
 use Rattle.comm_rank.specs.Sends.{IsData}
-use Rattle.comm_rank.proofs.Folds.{on_err, too_many, outs_are, made_are, stuck_refused, stuck_sending, ran_first, more_given}
+use Rattle.comm_rank.proofs.Folds.{full_behind, full_weaker, on_err, outs_are, made_are, stuck_refused, stuck_sending, ran_first}
 use Rattle.comm_rank.proofs.comm.Comm.run_first.Goals as goal
 
 pub returns-in_err-run-clause-stuck : goal.returns-in_err-run-clause-stuck
@@ -37,14 +38,14 @@ returns-clause-ran g c =
 pub returns-in_err-sent-clause-cause : goal.returns-in_err-sent-clause-cause
 returns-in_err-sent-clause-cause g c = search rules
 
-pub returns-in_err-sent-clause-one_too_many : goal.returns-in_err-sent-clause-one_too_many
-returns-in_err-sent-clause-one_too_many g c =
+pub returns-in_err-sent-clause-full_at_first : goal.returns-in_err-sent-clause-full_at_first
+returns-in_err-sent-clause-full_at_first g c =
     let apply = g.H.Handler.apply in
+    let i = c.self.inside in
     let l = letter_of c.first-letter.result in
-    let ranks : c.self.inside.out.ranks ≡ c.self.inside.layout.ranks = c.self.invariant.3 in
-    let outs = outs_are apply c.self.inside.here _ _ c.self.inside.handler l _ _ ranks c.self.invariant.4 c.in_ok-run.ensures.sent in
-    let e = c.in_err-sent.ensures.part in
-    let more = more_given apply _ _ c.self.view_is c.run.new.out.letters l e.0 outs c.first-letter.ensures e.1 in
+    let ranks : i.out.ranks ≡ i.layout.ranks = c.self.invariant.3 in
+    let outs = outs_are apply i.here _ _ i.handler l _ _ ranks c.self.invariant.4 c.in_ok-run.ensures.sent in
+    let there : IfErr c.from_residual-in_err-sent.result (λ fault. IfCountFull fault (λ _. i.limits.letters < i.sent.count + length c.run.new.out.letters)) = search rules in
     IfErr-weaker c.from_residual-in_err-sent.result _ _
-    (too_many c.send_out-sent.new.sent.count c.args.self.now.most _ (omega (arith, more, e.3)))
-    (returns-in_err-sent-clause-cause g c)
+    (full_weaker _ _ (λ _ more. full_behind apply _ _ _ c.self.view_is c.run.new.out.letters l outs c.first-letter.ensures refl more))
+    there

@@ -1,8 +1,8 @@
-use Rattle.std.proofs.Common.{◌<◌, IfErr, ◌∙◌, ◌+◌, ◌++◌, [], ◌∷◌, length, length-append, append-nil, sym, ap, arith, rules}
+use Rattle.std.proofs.Common.{IfErr, ◌∙◌, ◌++◌, [], ◌∷◌, length-append, append-nil, sym, ap, arith, rules}
 use Rattle.std.proofs.lemmas.Result.{IfErr-weaker}
 use Rattle.comm_rank.specs.Fault.{IfCountFull}
-use Rattle.comm_rank.specs.Rank.{handed}
-use Rattle.comm_rank.proofs.Folds.{on_err, ran_more, rest_for, stuck_later, too_many_later, too_many_there, waits_one_less}
+use Rattle.comm_rank.specs.Turns.{IsFullBehind}
+use Rattle.comm_rank.proofs.Folds.{full_later, full_weaker, on_err, ran_more, rest_for, stuck_later, waits_one_less}
 use Rattle.comm_rank.proofs.comm.Comm.run_waiting.Goals as goal
 
 pub run_first-requires-clause-for_here : goal.run_first-requires-clause-for_here
@@ -22,15 +22,18 @@ returns-in_err-run_first-clause-stuck g c =
       stuck = stuck_later g.H.Handler.apply _ _ _ same.here same.layout so_far.0 [] e.0 so_far.3 e.1;
     })
 
-pub returns-in_err-run_first-clause-one_too_many : goal.returns-in_err-run_first-clause-one_too_many
-returns-in_err-run_first-clause-one_too_many g c =
+pub returns-in_err-run_first-clause-full_at_first : goal.returns-in_err-run_first-clause-full_at_first
+returns-in_err-run_first-clause-full_at_first g c =
     let so_far = c.loop.invariant.ran in
     let same = c.loop.invariant.same_rank in
     let apply = g.H.Handler.apply in
-    let mid = c.loop.self in
-    let at_mid : IfErr c.from_residual.result (λ fault. IfCountFull fault (λ _. mid.most < mid.sent_count + length (handed apply mid mid.waiting))) = search rules in
+    let at_mid : IfErr c.from_residual.result (λ fault. IfCountFull fault (λ _. IsFullBehind apply c.loop.self c.run_first.new.self [])) = search rules in
     IfErr-weaker c.from_residual.result _ _
-    (too_many_there _ _ _ _ same.most (too_many_later apply c.args.self.now mid mid same.here same.layout so_far.0 mid.waiting so_far.3 ∙ ap (λ w. c.args.self.now.sent_count + length (handed apply c.args.self.now w)) (sym so_far.1)))
+    (full_weaker _ _ (λ _ behind. record {
+      run = so_far.0 ++ [];
+      waits = so_far.1 ∙ ap (λ w. so_far.0 ++ w) (sym c.in_err-run_first.ensures.still_waits) ∙ ap (λ w. w ++ c.run_first.new.self.waiting) (sym (append-nil so_far.0));
+      behind = full_later apply _ _ _ same.here same.layout so_far.0 [] same.most so_far.3.contents so_far.3.sent_count behind;
+    }))
     at_mid
 
 pub loop-preserved : goal.loop-preserved

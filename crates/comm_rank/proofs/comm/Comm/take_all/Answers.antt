@@ -1,12 +1,11 @@
-use Rattle.std.proofs.Common.{◌∙◌, ◌+◌, ◌<◌, ℕ, IfErr, ap, refl, subst, length, arith, rules}
+use Rattle.std.proofs.Common.{◌∙◌, ℕ, IfErr, refl, subst, arith, rules}
 use Rattle.std.proofs.lemmas.Result.{IfErr-weaker}
 use Rattle.comm_rank.specs.Agrees.{Agrees}
 use Rattle.comm_rank.specs.Fault.{IfCountFull}
-use Rattle.comm_rank.specs.Rank.{handed}
 use Rattle.comm_rank.specs.Running.{CutFrom, TookFrom}
-use Rattle.comm_rank.specs.Turns.{came_in}
-use Rattle.comm_rank.proofs.Folds.{on_err, too_many_there}
-use Rattle.comm_rank.proofs.Joining.{cut_later, handed_later, joined, looked_below, not_looked_above, post_more, post_none, took_nothing}
+use Rattle.comm_rank.specs.Turns.{FullAtFirst}
+use Rattle.comm_rank.proofs.Folds.{full_weaker, on_err}
+use Rattle.comm_rank.proofs.Joining.{cut_later, full_joined, joined, looked_below, not_looked_above, post_more, post_none, took_nothing}
 use Rattle.comm_rank.proofs.Taking.{honest_on}
 use Rattle.comm_rank.proofs.comm.Comm.take_all.Goals as goal
 
@@ -37,22 +36,17 @@ returns-in_err-took-clause-cut_off g c =
     on_err c.from_residual.result _
     (cut_later apply old mid new _ _ _ same from c.loop-from.took c.loop-from.invariant.took (subst P same.here c.in_err-took.ensures.cut_off))
 
-pub returns-in_err-took-clause-one_too_many : goal.returns-in_err-took-clause-one_too_many
-returns-in_err-took-clause-one_too_many g c =
+pub returns-in_err-took-clause-full_at_first : goal.returns-in_err-took-clause-full_at_first
+returns-in_err-took-clause-full_at_first g c =
     let apply = g.H.Handler.apply in
     let told = g.P.Post.told in
-    let old = c.args.self.now in
     let mid = c.loop-from.self in
     let new = c.take_from.new.self in
-    let from = c.loop-from.from in
     let same = c.loop-from.invariant.same_rank in
-    let P : ℕ → Type 0 = λ h. CutFrom from apply mid new ((told c.loop-from.post).log h) ((told c.take_from.new.post).log h) in
-    let there : IfErr c.from_residual.result (λ fault. IfCountFull fault (λ _. mid.most
-    < mid.sent_count + length (handed apply mid (came_in mid.here ((told c.loop-from.post).log mid.here) ((told c.take_from.new.post).log mid.here))))) = search rules in
+    let P : ℕ → Type 0 = λ h. FullAtFirst apply mid new ((told c.loop-from.post).log h) ((told c.take_from.new.post).log h) in
+    let there : IfErr c.from_residual.result (λ fault. IfCountFull fault (λ _. P mid.here)) = search rules in
     IfErr-weaker c.from_residual.result _ _
-    (too_many_there _ _ _ _ same.most
-    (ap (λ h. mid.sent_count + length (handed apply mid (came_in mid.here ((told c.loop-from.post).log h) ((told c.take_from.new.post).log h)))) same.here
-    ∙ handed_later apply old mid new _ _ _ same from c.loop-from.took c.loop-from.invariant.took (subst P same.here c.in_err-took.ensures.cut_off)))
+    (full_weaker _ _ (λ _ full. full_joined apply c.args.self.now mid new _ _ _ same c.loop-from.from c.loop-from.took c.loop-from.invariant.took (subst P same.here full)))
     there
 
 pub loop-from-preserved : goal.loop-from-preserved

@@ -1,11 +1,10 @@
-use Rattle.std.proofs.Common.{◌≡◌, ℕ, ◌∙◌, ◌<◌, subst, ◌+◌, IfErr, ap, sym, inl, length, rules, refl}
+use Rattle.std.proofs.Common.{◌≡◌, ℕ, subst, IfErr, ap, inl, rules, refl}
 use Rattle.std.proofs.lemmas.Result.{IfErr-weaker}
 use Rattle.comm_rank.specs.Fault.{IfCountFull}
-use Rattle.comm_rank.specs.Fold.{handed_from}
 use Rattle.comm_rank.specs.Rank.{Rank}
-use Rattle.comm_rank.specs.Turns.{came_in}
-use Rattle.comm_rank.proofs.Folds.{on_err, too_many_there}
-use Rattle.comm_rank.proofs.Taking.{agrees_now, arrival, came_batch, cut_from, few_run, handed_came, honest_took, link_stands, looked_none, not_looked_none, ran_waiting, same_from, same_log, stuck_waiting, taken_here, taken_other, took_from, took_none, waiting_for}
+use Rattle.comm_rank.specs.Running.{FullAmong}
+use Rattle.comm_rank.proofs.Folds.{full_weaker, on_err}
+use Rattle.comm_rank.proofs.Taking.{agrees_now, arrival, cut_from, few_run, full_from, full_waiting, honest_took, link_stands, looked_none, not_looked_none, ran_waiting, same_from, same_log, stuck_waiting, taken_here, taken_other, took_from, took_none, waiting_for}
 use Rattle.comm_rank.proofs.comm.Comm.take_from.Goals as goal
 
 pub returns-in_default-clause-took : goal.returns-in_default-clause-took
@@ -43,8 +42,8 @@ returns-in_err-run_waiting-clause-cut_off g c =
     let stuck = stuck_waiting apply _ old c.run_waiting.new.self c.of.result c.in-Some.batch c.self.view_is c.of.ensures c.in_err-run_waiting.ensures.stuck in
     on_err c.from_residual.result _ (cut_from apply old c.run_waiting.new.self log after c.args.from c.in-Some.batch same_rank a.gained a.all c.requires.agrees.nothing_waits stuck)
 
-pub returns-in_err-run_waiting-clause-one_too_many : goal.returns-in_err-run_waiting-clause-one_too_many
-returns-in_err-run_waiting-clause-one_too_many g c =
+pub returns-in_err-run_waiting-clause-full_at_first : goal.returns-in_err-run_waiting-clause-full_at_first
+returns-in_err-run_waiting-clause-full_at_first g c =
     let told = g.P.Post.told in
     let old = c.args.self.now in
     let same = c.take.ensures.same in
@@ -53,12 +52,12 @@ returns-in_err-run_waiting-clause-one_too_many g c =
     let after = (told c.take.new.self).log old.here in
     let apply = g.H.Handler.apply in
     let same_rank = same_from _ old c.run_waiting.new.self _ c.self.view_is c.run_waiting.ensures.same_rank in
-    let me = c.self.inside in
-    let there : IfErr c.from_residual.result (λ fault. IfCountFull fault (λ _. me.limits.letters < me.sent.count + length (handed_from apply me.here me.layout.ranks me.handler c.of.result))) = search rules in
-    let came : c.of.result ≡ came_in old.here log after =
-    c.of.ensures ∙ sym (came_batch apply old c.run_waiting.new.self log after c.args.from c.in-Some.batch same_rank a.gained a.all) in
+    let i = c.self.inside in
+    let was : Rank g.row.H.Denot = record { layout = i.layout; scheme = i.scheme; here = i.here; most = i.limits.letters; contents = i.handler; sent_count = i.sent.count; run_count = i.ran; held = i.held.lists; waiting = c.of.result; stopped = i.stopped } in
+    let there : IfErr c.from_residual.result (λ fault. IfCountFull fault (λ _. FullAmong apply was c.run_waiting.new.self)) = search rules in
     IfErr-weaker c.from_residual.result _ _
-    (too_many_there _ _ _ _ (ap (λ (r : Rank _). r.most) c.self.view_is) (handed_came apply _ old c.of.result (came_in old.here log after) c.self.view_is came))
+    (full_weaker _ _ (λ _ full. full_from apply old c.run_waiting.new.self log after c.args.from c.in-Some.batch same_rank a.gained a.all c.requires.agrees.nothing_waits
+    (full_waiting apply _ old c.run_waiting.new.self c.of.result c.in-Some.batch c.self.view_is c.of.ensures full)))
     there
 
 pub returns-in_err-run_waiting-clause-honest : goal.returns-in_err-run_waiting-clause-honest

@@ -2,7 +2,7 @@ use Rattle.std.proofs.Common.{ℕ, ap, subst, arith}
 use Rattle.ygm_route.specs.Layout.{Shape}
 use Rattle.comm_rank.specs.Puts.{PutOut}
 use Rattle.comm_rank.proofs.Folds.{on_err}
-use Rattle.comm_rank.proofs.Turning.{cut_off, looked_then, met_then}
+use Rattle.comm_rank.proofs.Turning.{cut_off, full_then, looked_then, met_then}
 use Rattle.comm_rank.proofs.comm.Comm.work.Goals as goal
 
 pub returns-in_err-put-clause-cut_off : goal.returns-in_err-put-clause-cut_off
@@ -26,3 +26,8 @@ pub returns-clause-puts_to_each : goal.returns-clause-puts_to_each
 returns-clause-puts_to_each g c = λ to within.
     met_then c.args.self.now.here c.take_all.new.self.here _ _ _ c.take_all.ensures.same_rank.here c.take_all.ensures.post_took c.put_all.ensures.post_stands
     to _ (c.in_ok-put.ensures.none_or_full to (omega (arith, within, ap (λ (l : Shape). l.ranks) c.take_all.ensures.same_rank.layout)))
+
+pub returns-clause-full : goal.returns-clause-full
+returns-clause-full g c =
+    full_then c.args.self.now.here c.take_all.new.self.here _ _ _ c.take_all.ensures.same_rank.here c.take_all.ensures.post_took c.put_all.ensures.post_stands
+    _ _ (ap (λ (l : Shape). l.ranks) c.take_all.ensures.same_rank.layout) _ _ c.in_ok-put.ensures.full

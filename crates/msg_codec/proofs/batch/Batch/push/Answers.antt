@@ -1,16 +1,24 @@
-use Rattle.std.proofs.Common.{◌≡◌, ◌++◌, ◌∷◌, [], length, rules}
+use Rattle.std.proofs.Common.{rules}
 use Rattle.msg_codec.specs.Letter.{letter_of}
-use Rattle.msg_codec.proofs.Placed.{pushed}
+use Rattle.msg_codec.proofs.Placed.{first_put, later_put}
 use Rattle.msg_codec.proofs.batch.Batch.push.Goals as goal
+
+pub invariant_of-self : goal.invariant_of-self
+invariant_of-self c =
+    let put = first_put c.append.result _ _ _ (letter_of c.args.letter) c.self.invariant (search rules) c.append.ensures.ok c.append.ensures.err c.append.ensures.fits in
+    put.whole
+
+pub returns-then-start-eq0-clause-last : goal.returns-then-start-eq0-clause-last
+returns-then-start-eq0-clause-last c =
+    let put = first_put c.append.result _ _ _ (letter_of c.args.letter) c.self.invariant (search rules) c.append.ensures.ok c.append.ensures.err c.append.ensures.fits in
+    rw (← c.self.view_is) put.letters
 
 pub invariant_of-self-2 : goal.invariant_of-self-2
 invariant_of-self-2 c =
-    let one = pushed _ _ (letter_of c.args.letter) c.self.invariant c.in_ok-append.ensures.fits in
-    let starts : c.push.new.self.items ≡ c.self.inside.starts.items ++ length c.self.inside.bytes.items ∷ [] = search rules in
-    rw (c.in_ok-append.ensures.ok, starts) one.whole
+    let put = later_put _ _ _ _ (letter_of c.args.letter) c.self.invariant (search rules) c.in_ok-append.ensures.ok (search rules) c.in_ok-append.ensures.fits in
+    put.whole
 
 pub returns-clause-last : goal.returns-clause-last
 returns-clause-last c =
-    let one = pushed _ _ (letter_of c.args.letter) c.self.invariant c.in_ok-append.ensures.fits in
-    let starts : c.push.new.self.items ≡ c.self.inside.starts.items ++ length c.self.inside.bytes.items ∷ [] = search rules in
-    rw (c.in_ok-append.ensures.ok, starts, ← c.self.view_is) one.letters
+    let put = later_put _ _ _ _ (letter_of c.args.letter) c.self.invariant (search rules) c.in_ok-append.ensures.ok (search rules) c.in_ok-append.ensures.fits in
+    rw (← c.self.view_is) put.letters

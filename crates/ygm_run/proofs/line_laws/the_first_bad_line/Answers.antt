@@ -1,0 +1,14 @@
+use Rattle.ygm_run.proofs.FirstBad.{first_of_number, good_of_first, good_of_short, none_of_short, number_of_first, short_of_none}
+use Rattle.ygm_run.proofs.line_laws.the_first_bad_line.Goals as goal
+
+pub returns-clause-number : goal.returns-clause-number
+returns-clause-number c = λ raws number. (first_of_number raws number, number_of_first raws number)
+
+pub returns-clause-no_number : goal.returns-clause-no_number
+returns-clause-no_number c = λ raws. (short_of_none raws, none_of_short raws)
+
+pub returns-clause-good : goal.returns-clause-good
+returns-clause-good c = good_of_first
+
+pub returns-clause-all_good : goal.returns-clause-all_good
+returns-clause-all_good c = good_of_short
