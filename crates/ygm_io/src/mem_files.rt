@@ -101,7 +101,8 @@ impl Files for MemFiles {
     ghost faults = { λ files. files.plan.faults };
 
     /// Opens a copy of the file that was added last under the name. It fails at the calls that were
-    /// given and at a name that wasn't added, and there alone.
+    /// given and at a name that wasn't added, and there alone. An open that is refused for want of memory
+    /// isn't counted as a call.
     fn open_named(&mut self, name: &str) -> Result<MemSource, OpenFailed>
         ensures bytes { IfOk result (λ source. Some source.left ≡ bytes_named name.now self.old.files.items) }
         ensures fresh { IfOk result (λ source. source.plan.faults ≡ 0) }
@@ -120,15 +121,18 @@ impl Files for MemFiles {
         ensures opened { IfOk result (λ source. IsSomeAnd (last_named name.now self.old.files.items)
             (λ file. (source.left ≡ file.bytes) × (source.plan ≡ fresh_plan file.fails))) }
         ensures counted { OnOk result (self.new.plan ≡ after_call self.old.plan) }
-        ensures counted_without_memory { IsErrOf result OpenFailed.NoMemory →
-            self.new.plan ≡ after_call self.old.plan }
+        ensures unchanged_without_memory { IsErrOf result OpenFailed.NoMemory → self.new.plan ≡ self.old.plan }
         ensures counted_fault { IsErrOf result OpenFailed.Failed →
             self.new.plan ≡ after_fault self.old.plan }
         ensures same_files { self.new.files.items ≡ self.old.files.items }
     {
         let fails = self.plan.next_fails();
         match find_named(&self.files, name) {
-            Some(file) if !fails => Ok(file.open(self.alloc)?),
+            Some(file) if !fails => {
+                let source = file.open(self.alloc)?;
+                self.plan.count_call();
+                Ok(source)
+            }
             _ => {
                 self.plan.count_fault();
                 Err(OpenFailed::Failed)

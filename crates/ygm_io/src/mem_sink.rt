@@ -79,6 +79,7 @@ impl Sink for MemSink {
             self.plan.count_fault();
             return Err(Failed);
         }
+        self.plan.count_call();
         Ok(count)
     }
 }

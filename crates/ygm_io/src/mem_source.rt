@@ -71,6 +71,7 @@ impl Source for MemSource {
             self.plan.count_fault();
             return Err(Failed);
         }
+        self.plan.count_call();
         Ok(self.left.move_into(into))
     }
 }

@@ -1,8 +1,8 @@
 //! Which calls of an object are to fail.
 ghost use Rattle.std.specs.Prelude.{◌≡◌, ◌≤◌, ◌↔◌, ◌++◌, [], ◌∷◌, IfOk, OnOk, OnErr, IsTrue};
-ghost use Rattle.rising_counts.specs.Rising.{next_count};
-ghost use Rattle.ygm_io.specs.Plan.{Plan, fresh_plan, NextFails};
+ghost use Rattle.ygm_io.specs.Plan.{Plan, after_call, after_fault, fresh_plan, NextFails};
 
+use rising_counts::one_more;
 use std::alloc::{AllocError, Global};
 use std::marker::Model;
 
@@ -52,22 +52,27 @@ impl FaultPlan {
         Ok(())
     }
 
-    /// Counts a call, and answers whether it is to fail.
-    pub fn next_fails(&mut self) -> bool
-        ensures listed { IsTrue result ↔ NextFails self.old }
-        ensures counted { self.new ≡ record self.old { calls = next_count self.old.calls } }
+    /// Whether the next call is to fail.
+    pub fn next_fails(&self) -> bool
+        ensures { IsTrue result ↔ NextFails self.now }
     {
-        let call = self.calls;
-        self.calls = call.saturating_add(1);
-        self.fails.contains(&call)
+        self.fails.contains(&self.calls)
     }
 
-    /// Counts a fault.
+    /// Counts a call that doesn't fail.
+    pub fn count_call(&mut self)
+        ensures { self.new ≡ after_call self.old }
+    {
+        self.calls = one_more(self.calls);
+    }
+
+    /// Counts a call that fails.
     pub fn count_fault(&mut self)
-        ensures counted { self.new ≡ record self.old { faults = next_count self.old.faults } }
+        ensures counted { self.new ≡ after_fault self.old }
         ensures never_falls { self.old.faults ≤ self.new.faults }
     {
-        self.faults = self.faults.saturating_add(1);
+        self.calls = one_more(self.calls);
+        self.faults = one_more(self.faults);
     }
 
     pub fn faults(&self) -> u64

@@ -4,6 +4,7 @@ ghost use Rattle.rising_counts.specs.Rising.{Rose, next_count};
 ghost use Rattle.ygm_io.specs.declared.files.OpenFailed.{OpenFailed};
 
 use crate::{Files, OpenFailed, StdSource};
+use rising_counts::one_more;
 use std::fs;
 use std::io::ErrorKind;
 
@@ -62,7 +63,7 @@ where
                 },
             }
         }
-        self.faults = self.faults.saturating_add(1);
+        self.faults = one_more(self.faults);
         Err(OpenFailed::Failed)
     }
 }

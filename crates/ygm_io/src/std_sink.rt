@@ -4,6 +4,7 @@ ghost use Rattle.std.specs.Io.KnownBytes.{WriteAppends};
 ghost use Rattle.rising_counts.specs.Rising.{Rose, next_count};
 
 use crate::{Failed, Sink};
+use rising_counts::one_more;
 use std::io::{ErrorKind, Write};
 
 /// A sink over a writer of std. It tells no bytes, and its count of faults stands still at
@@ -59,7 +60,7 @@ impl<W: Write> Sink for StdSink<W> {
                 _ => break,
             }
         }
-        self.faults = self.faults.saturating_add(1);
+        self.faults = one_more(self.faults);
         Err(Failed)
     }
 }

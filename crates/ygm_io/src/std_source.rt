@@ -4,6 +4,7 @@ ghost use Rattle.std.specs.Io.KnownBytes.{ReadConsumes};
 ghost use Rattle.rising_counts.specs.Rising.{Rose, next_count};
 
 use crate::{Failed, Source};
+use rising_counts::one_more;
 use std::io::{ErrorKind, Read};
 
 /// A source over a reader of std. It tells no bytes, and its count of faults stands still at
@@ -54,7 +55,7 @@ impl<R: Read> Source for StdSource<R> {
                 Err(_) => break,
             }
         }
-        self.faults = self.faults.saturating_add(1);
+        self.faults = one_more(self.faults);
         Err(Failed)
     }
 }

@@ -179,6 +179,36 @@ fn a_sink_over_a_writer_counts_its_faults(rt: HostRuntime) -> Result<(), Fail> {
     Ok(())
 }
 
+// Takes no byte at its first write, and all of each later one.
+#[derive(Drop)]
+struct Hesitant {
+    has_waited: bool,
+}
+
+impl Write for Hesitant {
+    fn write(&mut self, bytes: &[u8]) -> io::Result<usize> {
+        if self.has_waited {
+            return Ok(bytes.len());
+        }
+        self.has_waited = true;
+        Ok(0)
+    }
+
+    fn flush(&mut self) -> io::Result<()> {
+        Ok(())
+    }
+}
+
+#[test]
+fn a_write_that_takes_no_byte_is_a_fault_and_not_tried_again(rt: HostRuntime) -> Result<(), Fail> {
+    let mut sink = StdSink::new(Hesitant { has_waited: false });
+    assert_eq!(rt; sink.write(b"abc"), Err(Failed));
+    assert_eq!(rt; sink.faults(), 1);
+    assert_eq!(rt; sink.write(b"abc"), Ok(3));
+    assert_eq!(rt; sink.faults(), 1);
+    Ok(())
+}
+
 #[test]
 fn files_of_the_system_are_read(rt: HostRuntime) -> Result<(), Fail> {
     let name = format!(in rt.alloc(); "ygm_io_test_{}", process::id(rt.process()))?;

@@ -88,7 +88,7 @@ module _ {S : Type 0} (left : S → Told) (count : S → ℕ) where
   run_unopened names content sources many opening writing status all opened fresh ends =
       ends_so (λ _. ⊥) (λ kind. (Ok names ≡ Err kind) × (sources ≡ []))
       (λ file. (file ≡ length sources) × (file < many) × opening) (λ file. (ns : List (List ℕ)) × (Ok names ≡ Ok ns) × IsFirstUnopened left count content ns sources file × opening)
-      (λ _ _. ⊥) (λ rank at. Opened (Ok names) sources (λ ns. IsFullAtRank count (map content ns) sources rank at))
+      (λ _ _. ⊥) (λ rank at. Opened (Ok names) sources (λ ns. IsFullAtRank left count (map content ns) sources rank at))
       (λ _ _. ⊥) (λ rank found. Opened (Ok names) sources (λ ns. IsLowestFault left count (map content ns) sources rank found))
       ⊥ (Opened (Ok names) sources (λ ns. AllRead left count (map content ns) sources × writing))
       ⊥ (Opened (Ok names) sources (λ ns. AllRead left count (map content ns) sources))
@@ -103,7 +103,7 @@ module _ {S : Type 0} (left : S → Told) (count : S → ℕ) where
       let now = subst (λ hs. JobEnds left count hs sources writing status) is ends in
       ends_so (λ _. ⊥) (λ kind. (Ok names ≡ Err kind) × (sources ≡ []))
       (λ _. ⊥) (λ file. (ns : List (List ℕ)) × (Ok names ≡ Ok ns) × IsFirstUnopened left count content ns sources file × opening)
-      (IsFullAtRank count (map content names) sources) (λ rank at. Opened (Ok names) sources (λ ns. IsFullAtRank count (map content ns) sources rank at))
+      (IsFullAtRank left count (map content names) sources) (λ rank at. Opened (Ok names) sources (λ ns. IsFullAtRank left count (map content ns) sources rank at))
       (IsLowestFault left count (map content names) sources) (λ rank found. Opened (Ok names) sources (λ ns. IsLowestFault left count (map content ns) sources rank found))
       (AllRead left count (map content names) sources × writing) (Opened (Ok names) sources (λ ns. AllRead left count (map content ns) sources × writing))
       (AllRead left count (map content names) sources) (Opened (Ok names) sources (λ ns. AllRead left count (map content ns) sources))
@@ -197,13 +197,13 @@ module _ {S : Type 0} (left : S → Told) (count : S → ℕ) where
     | inl (source, within, at, get) ↦
         let held = held_of left count helds sources rank source all at in
         let b = bytes_of bytes helds rank held.0 told held.1 in
-        let read = subst (IsRead held.0 (left source) (count source)) lowest.here (lowest.read rank held.0 source held.1 at) in
-        none found held.0 (left source) (count source) read (calm rank source at) b.0 b.2 (good_at bytes rank b.0 good b.1)
+        let read = subst (IsRead left count held.0 source) lowest.here (lowest.read rank held.0 source held.1 at) in
+        none found held.0 source read (calm rank source at) b.0 b.2 (good_at bytes rank b.0 good b.1)
     | inr (past, is) ↦ absurd (omega (arith, past, lowest.within))
   ] where
-    none : (f : InputFault) (held left_now : Told) (n : ℕ) → IsRead held left_now n (Some f) → n ≡ 0 → (b : List ℕ) → held ≡ Some b → first_too_long (raw_lines b) ≡ None → ⊥
-    none Read held left_now n read calm b e g = omega (arith, read.read.0 refl, calm)
-    none (Bad line why) held left_now n read calm b e g = let bad = if_at held b (λ bytes. Some line ≡ first_too_long (raw_lines bytes)) e (read.bad calm) in let f = bad ∙ g in cc
+    none : (f : InputFault) (held : Told) (source : S) → IsRead left count held source (Some f) → count source ≡ 0 → (b : List ℕ) → held ≡ Some b → first_too_long (raw_lines b) ≡ None → ⊥
+    none Read held source read calm b e g = omega (arith, read.read.0 refl, calm)
+    none (Bad line why) held source read calm b e g = let bad = if_at held b (λ bytes. Some line ≡ first_too_long (raw_lines bytes)) e (read.bad calm) in let f = bad ∙ g in cc
 
   -- Completeness: nothing fails, all lines are good and few enough.
   pub run_complete : (order : Result (List (List ℕ)) UsageKind) (content : List ℕ → Told) (sources : List S) (opening writing : Type 0) (status : Status) → RunEnds left count order content sources opening writing status
@@ -225,7 +225,7 @@ module _ {S : Type 0} (left : S → Told) (count : S → ℕ) where
   run_complete order content sources opening writing NoMemory ends names bytes is told good few no_open no_write calm = inr refl
   run_complete order content sources opening writing (CountFull rank at) ends names bytes is told good few no_open no_write calm =
       let same = same_names order names ends.0 is ends.1 in
-      let full = subst (λ ns. IsFullAtRank count (map content ns) sources rank at) same ends.3 in
-      let b = bytes_of bytes (map content names) rank full.0 told full.2 in
-      let many = if_at full.0 b.0 (λ w. 2 ^ 56 < length (good_lines (raw_lines w))) b.2 full.4.lines in
+      let full = subst (λ ns. IsFullAtRank left count (map content ns) sources rank at) same ends.3 in
+      let b = bytes_of bytes (map content names) rank full.held told full.held_is in
+      let many = if_at full.held b.0 (λ w. 2 ^ 56 < length (good_lines (raw_lines w))) b.2 full.full.lines in
       absurd (omega (arith, many, few, few_lines bytes rank b.0 b.1))

@@ -53,7 +53,7 @@ pub record ReadSoFar {S : Type 0} (left : S → Told) (count : S → ℕ) (n : �
   pub fault : ℕ → Option InputFault
   pub carried : Carried own n comms links
   pub above : (r : ℕ) → k ≤ r → own r ≡ []
-  pub read : (r : ℕ) (held : Told) (source : S) → r < k → slice_get (map left start) r ≡ Some held → slice_get sources r ≡ Some source → IsRead held (left source) (count source) (fault r)
+  pub read : (r : ℕ) (held : Told) (source : S) → r < k → slice_get (map left start) r ≡ Some held → slice_get sources r ≡ Some source → IsRead left count held source (fault r)
   pub lines : (r : ℕ) (held : Told) → r < k → fault r ≡ None → slice_get (map left start) r ≡ Some held → IfSome held (λ bytes. own r ≡ lines_of bytes)
   pub untouched : (r : ℕ) → k ≤ r → slice_get sources r ≡ slice_get start r
   pub rests : AreRests left (map left start) sources
@@ -95,7 +95,7 @@ rests_more left start sources k item now rests at rest r held source is found = 
 ]
 
 pub read_more : {S : Type 0} (left : S → Told) (count : S → ℕ) (n : ℕ) (start sources : List S) (k : ℕ) (s1 s2 : List (Rank Counts)) (l1 l2 : Plain) (lowest lowest' : Option (ℕ × InputFault)) (item now : S) (new : Option InputFault)
-    → ReadSoFar left count n start sources k s1 l1 lowest → slice_get start k ≡ Some item → IsSent n k s1 s2 l1 l2 (left item) new → IsRead (left item) (left now) (count now) new → IsRest (left item) (left now)
+    → ReadSoFar left count n start sources k s1 l1 lowest → slice_get start k ≡ Some item → IsSent n k s1 s2 l1 l2 (left item) new → IsRead left count (left item) now new → IsRest (left item) (left now)
     → (lowest ≡ None → lowest' ≡ option_map (λ found. (k, found)) new) → ((found : ℕ × InputFault) → lowest ≡ Some found → lowest' ≡ lowest)
     → ReadSoFar left count n start (set sources k now) (k + 1) s2 l2 lowest'
 read_more {S} left count n start sources k s1 s2 l1 l2 lowest lowest' item now new so at sent isread rest none some = record {
@@ -107,9 +107,9 @@ read_more {S} left count n start sources k s1 s2 l1 l2 lowest lowest' item now n
     | inl e ↦
         let same = placed sources k r source now e found in
         let first = held_at left start k item held at (subst (λ i. slice_get (map left start) i ≡ Some held) e is) in
-        subst (IsRead held (left source) (count source)) (sym (at_same so.fault k r new e))
-        (subst (λ t. IsRead t (left source) (count source) new) first (subst (λ (x : S). IsRead (left item) (left x) (count x) new) same isread))
-    | inr ne ↦ subst (IsRead held (left source) (count source)) (sym (at_other so.fault k r new ne)) (so.read r held source (omega (arith, lt, ne)) is (sym (item_kept sources k r now ne) ∙ found))
+        subst (IsRead left count held source) (sym (at_same so.fault k r new e))
+        (subst (λ t. IsRead left count t source new) first (subst (λ (x : S). IsRead left count (left item) x new) same isread))
+    | inr ne ↦ subst (IsRead left count held source) (sym (at_other so.fault k r new ne)) (so.read r held source (omega (arith, lt, ne)) is (sym (item_kept sources k r now ne) ∙ found))
   ];
   lines = λ r held lt no is. elim (cases_eq r k) [
     | inl e ↦
@@ -140,7 +140,7 @@ pub all_read : {S : Type 0} (left : S → Told) (count : S → ℕ) (n : ℕ) (s
 all_read left count n start sources k comms links all end so r held source is at =
     let within : r < length sources = slice_get_within sources r source at in
     let lt : r < k = omega (arith, within, all, end) in
-    subst (IsRead held (left source) (count source)) (so.lowest_is r lt) (so.read r held source lt is at)
+    subst (IsRead left count held source) (so.lowest_is r lt) (so.read r held source lt is at)
 
 -- the bytes that a source of the list tells
 told_at : (lefts : List Told) (bytes : List (List ℕ)) (r : ℕ) → AreTold lefts bytes → r < length bytes → (b : List ℕ) × (slice_get bytes r ≡ Some b) × (slice_get lefts r ≡ Some (Some b))
@@ -176,6 +176,15 @@ lowest_told left count n start sources k comms links found all end within so = r
   none_below = so.lowest_is.2;
 }
 
--- a rank's count is full
-pub full_at : {S : Type 0} (left : S → Told) (count : S → ℕ) (start sources : List S) (k : ℕ) (item now : S) (limit : ℕ) → slice_get start k ≡ Some item → k < length sources → IsFull (left item) (count now) limit → IsFullAtRank count (map left start) (set sources k now) k limit
-full_at left count start sources k item now limit at lt full = (left item, now, slice_get-map left start k ∙ ap (option_map left) at, item_set sources k now lt, full)
+-- a rank's count is full, and the files below were read
+pub full_at : {S : Type 0} (left : S → Told) (count : S → ℕ) (n : ℕ) (start sources : List S) (k : ℕ) (comms : List (Rank Counts)) (links : Plain) (lowest : Option (ℕ × InputFault)) (item now : S) (limit : ℕ) → ReadSoFar left count n start sources k comms links lowest
+    → slice_get start k ≡ Some item → k < length sources → IsFull (left item) (count now) limit → IsFullAtRank left count (map left start) (set sources k now) k limit
+full_at left count n start sources k comms links lowest item now limit so at lt full = record {
+  held = left item;
+  source = now;
+  held_is = slice_get-map left start k ∙ ap (option_map left) at;
+  source_is = item_set sources k now lt;
+  full = full;
+  fault = so.fault;
+  read_below = λ r held source below is found. so.read r held source below is (sym (item_kept sources k r now (λ e. omega (arith, below, e))) ∙ found);
+}

@@ -85,7 +85,7 @@ Opened order sources P = (names : List (List ℕ)) × (order ≡ Ok names) × (l
 -- why the job ended so over these files, each of which was opened
 abbrev pub JobEnds : {S : Type 0} → (S → Told) → (S → ℕ) → List Told → List S → Type 0 → Status → Type 0
 JobEnds left count helds sources writing =
-    EndsBy (λ _. ⊥) (λ _. ⊥) (IsFullAtRank count helds sources) (IsLowestFault left count helds sources) (AllRead left count helds sources × writing) (AllRead left count helds sources)
+    EndsBy (λ _. ⊥) (λ _. ⊥) (IsFullAtRank left count helds sources) (IsLowestFault left count helds sources) (AllRead left count helds sources × writing) (AllRead left count helds sources)
 
 -- The file of this number is the first that couldn't be opened: those before it were, and not a byte of them was read.
 pub record IsFirstUnopened {S : Type 0} (left : S → Told) (count : S → ℕ) (content : List ℕ → Told) (names : List (List ℕ)) (sources : List S) (file : ℕ) : Type 0 where
@@ -103,7 +103,7 @@ RunEnds left count order content sources opening writing =
     EndsBy
     (λ kind. (order ≡ Err kind) × (sources ≡ []))
     (λ file. (names : List (List ℕ)) × (order ≡ Ok names) × IsFirstUnopened left count content names sources file × opening)
-    (λ rank at. Opened order sources (λ names. IsFullAtRank count (map content names) sources rank at))
+    (λ rank at. Opened order sources (λ names. IsFullAtRank left count (map content names) sources rank at))
     (λ rank found. Opened order sources (λ names. IsLowestFault left count (map content names) sources rank found))
     (Opened order sources (λ names. AllRead left count (map content names) sources × writing))
     (Opened order sources (λ names. AllRead left count (map content names) sources))
@@ -138,7 +138,7 @@ StopsBy full fault JobNoMemory = ⊤
 
 -- why the job over these files has no text
 abbrev pub JobStops : {S : Type 0} → (S → Told) → (S → ℕ) → List Told → List S → JobFault → Type 0
-JobStops left count helds sources = StopsBy (IsFullAtRank count helds sources) (IsLowestFault left count helds sources)
+JobStops left count helds sources = StopsBy (IsFullAtRank left count helds sources) (IsLowestFault left count helds sources)
 
 -- a rank's fault as one of the job; no rank's is a stop
 abbrev pub IsFaultOf : ℕ → CommFault → JobFault → Type 0

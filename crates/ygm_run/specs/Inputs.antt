@@ -21,21 +21,28 @@ abbrev pub good_lines : List (List ℕ) → List (List ℕ)
 good_lines [] = []
 good_lines (raw ∷ raws) = if nat_lt max_line (length raw) then [] else raw ∷ good_lines raws
 
--- A file was read to its end or to its first fault: what it held, what is left of it, its count of faults, and that fault.
-pub record IsRead (held left : Told) (count : ℕ) (fault : Option InputFault) : Type 0 where
+-- nothing was read behind a read that failed: what is left was left before it, when the source had no fault
+abbrev pub NothingBehind : {S : Type 0} → (S → Told) → (S → ℕ) → S → Option InputFault → Type 0
+NothingBehind {S} left count source fault = fault ≡ Some Read → (before : S) × (count before ≡ 0) × (left before ≡ left source)
+
+-- A source was read to its end or to its first fault: what is left of a source and its count of faults, what this one held
+-- at first, the source now, and that fault.
+pub record IsRead {S : Type 0} (left : S → Told) (count : S → ℕ) (held : Told) (source : S) (fault : Option InputFault) : Type 0 where
   -- a read of it failed exactly where its count is above 0
-  pub read : (fault ≡ Some Read) ↔ (0 < count)
+  pub read : (fault ≡ Some Read) ↔ (0 < count source)
   -- where none failed, the bad line is the first of those that it held, if one is
-  pub bad : count ≡ 0 → IfSome held (λ bytes. bad_line fault ≡ first_too_long (raw_lines bytes))
+  pub bad : count source ≡ 0 → IfSome held (λ bytes. bad_line fault ≡ first_too_long (raw_lines bytes))
   -- without a fault nothing is left
-  pub to_its_end : fault ≡ None → NothingLeft left
+  pub to_its_end : fault ≡ None → NothingLeft (left source)
   -- what was read before a read failed has no bad line, and no more lines end in it than a rank sends letters
-  pub before_read : fault ≡ Some Read → (front : List ℕ) × TakenFrom front held left × (first_too_long (raw_lines front) ≡ None) × (ended_lines front ≤ 2 ^ 56)
+  pub before_read : fault ≡ Some Read → (front : List ℕ) × TakenFrom front held (left source) × (first_too_long (raw_lines front) ≡ None) × (ended_lines front ≤ 2 ^ 56)
+  -- and nothing was read behind it
+  pub nothing_behind : NothingBehind left count source fault
   -- what was read before the piece that made a line bad has no bad line, and nothing was read behind that piece
   pub stops : (line : ℕ) (why : LineWhy) → fault ≡ Some (Bad line why) → (front piece : List ℕ) × (length piece ≤ 65536)
-      × TakenFrom (front ++ piece) held left × (first_too_long (raw_lines front) ≡ None)
+      × TakenFrom (front ++ piece) held (left source) × (first_too_long (raw_lines front) ≡ None)
   -- where no read failed, no more lines stand before a bad one than a rank sends letters
-  pub few : count ≡ 0 → IfSome held (λ bytes. length (good_lines (raw_lines bytes)) ≤ 2 ^ 56)
+  pub few : count source ≡ 0 → IfSome held (λ bytes. length (good_lines (raw_lines bytes)) ≤ 2 ^ 56)
 
 -- A rank's count of letters is full, with the limit that its counter gave: its file, which held this and has this count
 -- of faults, gives more lines before a bad one than a rank sends letters.
@@ -47,7 +54,12 @@ pub record IsFull (held : Told) (count limit : ℕ) : Type 0 where
 -- the files of sources, in the order of ranks, were read, each with its fault
 abbrev pub AreRead : {S : Type 0} → (S → Told) → (S → ℕ) → List Told → List S → (ℕ → Option InputFault) → Type 0
 AreRead {S} left count helds sources fault =
-    (rank : ℕ) (held : Told) (source : S) → slice_get helds rank ≡ Some held → slice_get sources rank ≡ Some source → IsRead held (left source) (count source) (fault rank)
+    (rank : ℕ) (held : Told) (source : S) → slice_get helds rank ≡ Some held → slice_get sources rank ≡ Some source → IsRead left count held source (fault rank)
+
+-- those of the first ranks were
+abbrev pub FirstAreRead : {S : Type 0} → (S → Told) → (S → ℕ) → List Told → List S → ℕ → (ℕ → Option InputFault) → Type 0
+FirstAreRead {S} left count helds sources ranks fault =
+    (rank : ℕ) (held : Told) (source : S) → rank < ranks → slice_get helds rank ≡ Some held → slice_get sources rank ≡ Some source → IsRead left count held source (fault rank)
 
 -- all files were read to their ends
 abbrev pub AllRead : {S : Type 0} → (S → Told) → (S → ℕ) → List Told → List S → Type 0
@@ -61,10 +73,15 @@ pub record IsLowestFault {S : Type 0} (left : S → Told) (count : S → ℕ) (h
   pub here : fault rank ≡ Some found
   pub none_below : (lower : ℕ) → lower < rank → fault lower ≡ None
 
--- the count of letters of a rank is full
-abbrev pub IsFullAtRank : {S : Type 0} → (S → ℕ) → List Told → List S → ℕ → ℕ → Type 0
-IsFullAtRank {S} count helds sources rank limit =
-    (held : Told) × (source : S) × (slice_get helds rank ≡ Some held) × (slice_get sources rank ≡ Some source) × IsFull held (count source) limit
+-- the count of letters of a rank is full, and that of none below is: their files were read, each to its end or its first fault
+pub record IsFullAtRank {S : Type 0} (left : S → Told) (count : S → ℕ) (helds : List Told) (sources : List S) (rank limit : ℕ) : Type 0 where
+  pub held : Told
+  pub source : S
+  pub held_is : slice_get helds rank ≡ Some held
+  pub source_is : slice_get sources rank ≡ Some source
+  pub full : IsFull held (count source) limit
+  pub fault : ℕ → Option InputFault
+  pub read_below : FirstAreRead left count helds sources rank fault
 
 -- of each file that was opened a rest is left
 abbrev pub AreRests : {S : Type 0} → (S → Told) → List Told → List S → Type 0

@@ -1,10 +1,11 @@
 //! A rank's file, from its bytes to letters on their way.
-ghost use Rattle.std.specs.Prelude.{◌≡◌, ◌<◌, ◌≤◌, ◌+◌, ◌^◌, false, true, slice_index, IfOk, IfErr, OnOk};
+ghost use Rattle.std.specs.Prelude.{◌≡◌, ◌<◌, ◌≤◌, ◌+◌, ◌^◌, false, true, Some, slice_index, IfOk, IfErr, OnOk};
 ghost use Rattle.comm_rank.specs.Fault.{IfCountFull, NeverStopped};
 ghost use Rattle.ygm_run.specs.Carried.{AreReady, sent_counts};
 ghost use Rattle.ygm_run.specs.Fed.{EndedWith, Fed, HasLine, IsSent, turns_left};
 ghost use Rattle.ygm_run.specs.Inputs.{IsFull, IsRead, IsRest};
 ghost use Rattle.ygm_run.specs.Turns.{to_come};
+ghost use Rattle.ygm_run.specs.declared.status.InputFault.TheVariants.{Read};
 
 use crate::line_reader::{Got, LineFault, LineReader};
 use crate::status::{InputFault, LineWhy};
@@ -40,6 +41,7 @@ fn take_turn<S: Source>(
     ensures full { IfErr result (λ fault. IfCountFull fault (λ limit. (limit ≡ 2 ^ 56) × (2 ^ 56 ≤ slice_index (sent_counts world.old.comms.items) rank)
         × (S.faults source.new ≡ S.faults source.old) × HasLine (to_come reader.old.held (S.left source.old)))) }
     ensures never_stopped { IfErr result NeverStopped }
+    ensures failed_read { IfOk result (λ fault. fault ≡ Some Read → S.left source.old ≡ S.left source.new) }
     ensures rest { IsRest (S.left source.old) (S.left source.new) }
     ensures ranks { world.new.ranks ≡ world.old.ranks }
 {
@@ -72,7 +74,7 @@ pub(crate) fn read_file<S: Source>(
     requires fresh { S.faults source.old ≡ 0 }
     ensures ready { OnOk result (AreReady world.new.comms.items world.new.links) }
     ensures sent { IfOk result (IsSent world.old.ranks rank world.old.comms.items world.new.comms.items world.old.links world.new.links (S.left source.old)) }
-    ensures read { IfOk result (IsRead (S.left source.old) (S.left source.new) (S.faults source.new)) }
+    ensures read { IfOk result (IsRead S.left S.faults (S.left source.old) source.new) }
     ensures full { IfErr result (λ fault. IfCountFull fault (IsFull (S.left source.old) (S.faults source.new))) }
     ensures never_stopped { IfErr result NeverStopped }
     ensures rest { IsRest (S.left source.old) (S.left source.new) }

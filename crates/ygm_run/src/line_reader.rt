@@ -1,12 +1,13 @@
 //! The lines of a source.
-ghost use Rattle.std.specs.Prelude.{◌≡◌, ◌+◌, ◌-◌, ◌^◌, ◌<◌, ◌≤◌, [], length, min, false, is_some, Some, IfSome, IfOk, IsErrOf};
+ghost use Rattle.std.specs.Prelude.{◌≡◌, ◌<◌, ◌≤◌, [], length, false, is_some, Some, IfSome, IfOk, IsErrOf};
 ghost use Rattle.ygm_io.specs.Content.{NothingLeft};
-ghost use Rattle.ygm_io.specs.Rising.{Rose};
+ghost use Rattle.ygm_io.specs.Rising.{Rose, next_count};
 ghost use Rattle.ygm_run.specs.Lines.{LacksLf, StartsTooLong, max_line};
 ghost use Rattle.ygm_run.specs.Turns.{FirstTaken, PieceBehind, PieceTaken, RawLineTaken, IfLine, OnLine, UnlessLine, OnMore, OnEnd, IfTooLong, UnlessReadFault, EndsOrFails, is_last, to_come, lines_to_come};
 
 pub use crate::pieces::READING_SPACE;
 use crate::pieces::{Pieces, TooLong};
+use rising_counts::one_more;
 use std::alloc::{AllocError, AllocFailed, Global};
 use std::marker::Model;
 use thiserror::Error;
@@ -121,7 +122,7 @@ impl LineReader {
             FirstTaken line (lines_to_come self.old.held (S.left source.old)) (lines_to_come self.new.held (S.left source.new))) }
         ensures raw_line { IfLine result (λ line.
             RawLineTaken line (to_come self.old.held (S.left source.old)) (to_come self.new.held (S.left source.new))) }
-        ensures line_counted { OnLine result (self.new.given ≡ min (self.old.given + 1) (2 ^ 64 - 1)) }
+        ensures line_counted { OnLine result (self.new.given ≡ next_count self.old.given) }
         ensures line_bound { OnLine result (length self.new.held ≤ 65536) }
 
         // Every other answer loses and repeats nothing.
@@ -144,9 +145,11 @@ impl LineReader {
             IfSome (to_come self.old.held (S.left source.old)) StartsTooLong) }
         // The piece that this turn read made it so.
         ensures too_long_by_a_piece { IfTooLong result (λ line. PieceBehind self.old.held self.new.held) }
-        ensures too_long_number { IfTooLong result (λ line. line ≡ min (self.old.given + 1) (2 ^ 64 - 1)) }
+        ensures too_long_number { IfTooLong result (λ line. line ≡ next_count self.old.given) }
 
         ensures cause { IsErrOf result LineFault.ReadFault → Rose (S.faults source.old) (S.faults source.new) }
+        // The read that failed was the turn's only one.
+        ensures read_fault_takes_nothing { IsErrOf result LineFault.ReadFault → S.left source.new ≡ S.left source.old }
         // What was read before the fault has no other whole line, and none that is too long.
         ensures read_fault_is_partial { IsErrOf result LineFault.ReadFault →
             LacksLf self.new.held × (length self.new.held ≤ max_line) }
@@ -180,7 +183,7 @@ impl LineReader {
             Err(TooLong) => {
                 self.done = true;
                 Err(LineFault::LineTooLong {
-                    line: self.given.saturating_add(1),
+                    line: one_more(self.given),
                 })
             }
         }
@@ -190,9 +193,9 @@ impl LineReader {
     fn give(&mut self, text: Vec<u8>) -> Got
         requires { length text.items ≤ max_line }
         ensures line { result ≡ Got.Line text.items }
-        ensures counted { self.new ≡ record self.old { given = min (self.old.given + 1) (2 ^ 64 - 1) } }
+        ensures counted { self.new ≡ record self.old { given = next_count self.old.given } }
     {
-        self.given = self.given.saturating_add(1);
+        self.given = one_more(self.given);
         Got::Line(Line { text })
     }
 

@@ -273,6 +273,19 @@ fn no_read_is_tried_behind_a_bad_line(rt: HostRuntime) -> Result<(), Fail> {
 }
 
 #[test]
+fn no_read_is_tried_behind_one_that_failed(rt: HostRuntime) -> Result<(), Fail> {
+    let mut files = two_files(rt.alloc(), &[0, 1])?;
+    let out = MemSink::new(rt.alloc(), &[], 3)?;
+    let outcome = tally(rt.alloc(), &mut files, &["tally", "f0", "f1"], out)?;
+    assert_eq!(rt; outcome.ended.status, Status::ReadFault { rank: 1 });
+    assert_eq!(rt; outcome.ended.sources.len(), 2);
+    assert_eq!(rt; outcome.ended.sources[0].left(), b"".as_slice());
+    assert_eq!(rt; outcome.ended.sources[1].faults(), 1);
+    assert_eq!(rt; outcome.ended.sources[1].left(), b"a\nb".as_slice());
+    Ok(())
+}
+
+#[test]
 fn the_fault_of_the_lowest_rank_is_told_and_the_others_read_on(
     rt: HostRuntime,
 ) -> Result<(), Fail> {

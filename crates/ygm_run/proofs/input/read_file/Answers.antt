@@ -20,6 +20,7 @@ loop-fault-init g c =
       bound = omega (arith, ap (λ (r : Reading). r.given) fresh);
       going_on = λ _. c.requires.fresh;
       ended = not_ended None c.in_ok-reader.reader left 0 (g.S.Source.faults c.args.source.now) (ap (λ (r : Reading). r.done) fresh);
+      behind = λ e. absurd cc;
       rest = rest_none left;
     }
 
@@ -56,6 +57,7 @@ loop-fault-preserved g c =
       bound = omega (arith, now.bound (omega (arith, before.sent, before.bound)), now.sent, before.sent);
       going_on = λ e. now.going_on e ∙ before.going_on unfinished;
       ended = λ done. subst (λ k. EndedWith c.in_ok-fault.fault c.take_turn.new.reader (g.S.Source.left c.take_turn.new.source) k (g.S.Source.faults c.take_turn.new.source)) (before.going_on unfinished) (now.ended done);
+      behind = λ failed. (c.loop-fault.source, before.going_on unfinished, now.failed_read failed);
       rest = rest_more (g.S.Source.left c.args.source.now) (g.S.Source.left c.loop-fault.source) (g.S.Source.left c.take_turn.new.source) before.rest c.take_turn.ensures.rest;
     }
 
@@ -71,4 +73,5 @@ returns-clause-sent g c =
 pub returns-clause-read : goal.returns-clause-read
 returns-clause-read g c =
     let fed = c.loop-fault.invariant.fed in
-    was_read fed.raws c.loop-fault.reader (g.S.Source.left c.args.source.now) (g.S.Source.left c.loop-fault.source) _ _ fed.short (from_start _ _ _ fed.taken) (omega (arith, fed.given)) c.loop-fault.invariant.bound (c.loop-fault.invariant.ended (sym c.done.ensures ∙ c.loop-fault-test.false))
+    was_read g.S.Source.left g.S.Source.faults fed.raws c.loop-fault.reader (g.S.Source.left c.args.source.now) c.loop-fault.source _ fed.short (from_start _ _ _ fed.taken) (omega (arith, fed.given)) c.loop-fault.invariant.bound
+    (c.loop-fault.invariant.ended (sym c.done.ensures ∙ c.loop-fault-test.false)) c.loop-fault.invariant.behind

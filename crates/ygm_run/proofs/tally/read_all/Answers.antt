@@ -27,7 +27,7 @@ returns-in-Err-clause-cause g c =
     let k = c.loop-rank.rank in
     let lt : k < length c.loop-rank.sources = omega (arith, c.loop-rank-test.true, c.loop-rank.auto.sources, c.ranks-rank-end.ensures, c.requires.all) in
     let at = sym (c.loop-rank.invariant.so.untouched k (omega arith)) ∙ slice_get-get_or c.loop-rank.sources k c.index-sources-rank.result lt in
-    stops_full _ _ k c.in-Err.fault _ (λ limit full. full_at g.S.Source.left g.S.Source.faults c.args.sources.now c.loop-rank.sources k _ c.read_file.new.source limit at lt full) c.in-Err.ensures.full
+    stops_full _ _ k c.in-Err.fault _ (λ limit full. full_at g.S.Source.left g.S.Source.faults _ c.args.sources.now c.loop-rank.sources k _ _ _ _ c.read_file.new.source limit c.loop-rank.invariant.so at lt full) c.in-Err.ensures.full
     c.of_rank.result c.of_rank.ensures
 
 pub returns-in-Err-clause-rests : goal.returns-in-Err-clause-rests
