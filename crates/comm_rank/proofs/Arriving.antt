@@ -72,7 +72,7 @@ pub forward_same : (me : Local) (from : ℕ) (batch : List Letter) → AllByRecu
 unfolding to_forward
 forward_same me from batch all s d =
     forward_if (is_rank me.layout s && is_rank me.layout d && not (nat_eq me.here d)) _ _ (λ b.
-    let apart : me.here ≢ d = λ e. absurd (let yes : nat_eq me.here d ≡ true = eq-eqb me.here d e in let no : not (nat_eq me.here d) ≡ true = and_second _ _ b in let both : not true ≡ true = ap not (sym yes) ∙ no in cc) in
+    let apart : me.here ≢ d = λ e. absurd (let yes : nat_eq me.here d ≡ true = eq-eqb me.here d e in let no : not (nat_eq me.here d) ≡ true = and_second (is_rank me.layout s && is_rank me.layout d) (not (nat_eq me.here d)) b in let both : not true ≡ true = ap not (sym yes) ∙ no in cc) in
     ap (λ xs. drop (length xs) (pair_taken s d (me.log ++ Took from batch ∷ []))) (pair_put-took s d me.log from batch)
     ∙ ap (drop (length (pair_put s d me.log))) (pair_taken-took s d me.log from batch ∙ ap (λ xs. pair_taken s d me.log ++ xs) (none_to_others me.here s d batch apart all) ∙ append-nil (pair_taken s d me.log)))
 

@@ -79,7 +79,7 @@ fn put_first<P: Post>(held: &mut Held, post: &mut P, here: u32, to: u32) -> Resu
     ensures fault { IfErr result (λ fault. fault ≡ NoMemory) }
 {
     let Some(batch) = held.next_out(to) else {
-        return Ok(false);
+        unreachable!();
     };
     match post.put(here, to, batch) {
         Ok(()) => Ok(true),

@@ -50,10 +50,10 @@ from_below here n l = is_data l && nat_eq l.to here && nat_lt l.from n
 
 from_next : (here n : ℕ) (l : Letter) → from_below here (suc n) l ≡ true → (from_below here n l ≡ true) ⊎ (is_of_pair n here l ≡ true)
 from_next here n l h =
-    let data_and_to : (is_data l && nat_eq l.to here) ≡ true = and_first _ _ h in
-    let tag : is_data l ≡ true = and_first _ _ data_and_to in
-    let dest : nat_eq l.to here ≡ true = and_second _ _ data_and_to in
-    let below : l.from < suc n = ltb-true _ _ (and_second _ _ h) in
+    let data_and_to : (is_data l && nat_eq l.to here) ≡ true = and_first (is_data l && nat_eq l.to here) (nat_lt l.from (suc n)) h in
+    let tag : is_data l ≡ true = and_first (is_data l) (nat_eq l.to here) data_and_to in
+    let dest : nat_eq l.to here ≡ true = and_second (is_data l) (nat_eq l.to here) data_and_to in
+    let below : l.from < suc n = ltb-true l.from (suc n) (and_second (is_data l && nat_eq l.to here) (nat_lt l.from (suc n)) h) in
     elim (cases_lt l.from n) [
       | inl less ↦ inl (rw (tag, dest, lt-ltb l.from n less) refl)
       | inr more ↦ inr (let same : nat_eq l.from n ≡ true = eq-eqb l.from n (omega arith) in rw (tag, same, dest) refl)

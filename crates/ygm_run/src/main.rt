@@ -1,7 +1,8 @@
 //! The program `ygm_run`: jobs over ranks that count, group and walk large data.
 #![tactic(auto)]
 
-ghost use Rattle.std.specs.Prelude.{◌≡◌, ◌⊎◌, IfErr};
+ghost use Rattle.std.specs.Prelude.{◌≡◌, ◌⊎◌, drop, IfErr, IfOk};
+ghost use Rattle.std.specs.Vec.Iter.{into_iter_items};
 
 mod input;
 pub mod line_laws;
@@ -18,10 +19,12 @@ pub mod words;
 mod world;
 
 pub use running::run;
+use std::alloc::{AllocError, Global};
 use std::env;
 use std::io::ErrorKind;
 use std::process::ExitCode;
 use std::rt::Env;
+use std::vec::IntoIter;
 use ygm_io::{StdFiles, StdSink};
 
 /// How a run ends whose words can't be read: what it tells, and its number.
@@ -29,6 +32,13 @@ const BAD_WORDS: (&str, u8) = ("a word is no text", 1);
 
 /// How a run ends for which memory is wanting before it begins.
 const NO_MEMORY: (&str, u8) = ("out of memory", 6);
+
+// The words behind the first, which is the program's name. None is left out where memory is wanting.
+fn behind_name(alloc: Global, args: IntoIter<String>) -> Result<Vec<String>, AllocError>
+    ensures { IfOk result (λ words. words.items ≡ drop 1 (into_iter_items args)) }
+{
+    args.skip(1).collect(alloc)
+}
 
 // The words behind the program's name.
 fn words_of(rt: &(impl Env + AllocGlobal)) -> Result<Vec<String>, (&'static str, u8)>
@@ -39,13 +49,7 @@ fn words_of(rt: &(impl Env + AllocGlobal)) -> Result<Vec<String>, (&'static str,
         Err(error) if error.kind() == ErrorKind::OutOfMemory => return Err(NO_MEMORY),
         Err(_) => return Err(BAD_WORDS),
     };
-    let mut words = Vec::new(rt.alloc());
-    for word in args.skip(1) {
-        if words.push(word).is_err() {
-            return Err(NO_MEMORY);
-        }
-    }
-    Ok(words)
+    behind_name(rt.alloc(), args).map_err(|_| NO_MEMORY)
 }
 
 fn main(rt: HostRuntime) -> ExitCode {

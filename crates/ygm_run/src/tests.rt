@@ -24,18 +24,32 @@ fn words_of(alloc: Global, texts: &[&str]) -> Result<Vec<String>, AllocError> {
     Ok(words)
 }
 
-// A run of `tally` over the files `f0`, `f1` and `f2` as far as they are there.
-fn tally(
+// A run over these files, whose output takes 3 bytes at each call and fails at these.
+fn run_into(
     alloc: Global,
     files: &mut MemFiles,
     texts: &[&str],
-    out: MemSink,
+    fails: &[u64],
 ) -> Result<Outcome, AllocError> {
     let words = words_of(alloc, texts)?;
-    let mut out = out;
+    let mut out = MemSink::new(alloc, fails, 3)?;
     let mut notes = MemSink::new(alloc, &[], 1000)?;
     let ended = run(alloc, &words, files, &mut out, &mut notes);
     Ok(Outcome { ended, out, notes })
+}
+
+// A run over these files, whose output doesn't fail.
+fn run_over(alloc: Global, files: &mut MemFiles, texts: &[&str]) -> Result<Outcome, AllocError> {
+    run_into(alloc, files, texts, &[])
+}
+
+// The status of a run in which this line is too long, and no rank below has a fault.
+fn too_long(rank: u32, line: u64) -> Status {
+    Status::BadLine {
+        rank,
+        line,
+        why: LineWhy::TooLong,
+    }
 }
 
 // The text of a run over files that hold these bytes.
@@ -48,8 +62,7 @@ fn text_of(rt: &(impl Abort + AllocGlobal), contents: &[&[u8]], text: &[u8]) -> 
         files.add(name, bytes, &[])?;
         texts.push(*name)?;
     }
-    let out = MemSink::new(rt.alloc(), &[], 1000)?;
-    let outcome = tally(rt.alloc(), &mut files, &texts, out)?;
+    let outcome = run_over(rt.alloc(), &mut files, &texts)?;
     assert_eq!(rt; outcome.ended.status, Status::Done);
     assert_eq!(rt; outcome.ended.sources.len(), contents.len());
     assert_eq!(rt; outcome.out.bytes(), text);
@@ -115,8 +128,7 @@ fn two_files(alloc: Global, fails: &[u64]) -> Result<MemFiles, AllocError> {
 #[test]
 fn a_job_without_files_is_refused(rt: HostRuntime) -> Result<(), Fail> {
     let alloc = rt.alloc();
-    let out = MemSink::new(alloc, &[], 3)?;
-    let outcome = tally(alloc, &mut two_files(alloc, &[])?, &["tally"], out)?;
+    let outcome = run_over(alloc, &mut two_files(alloc, &[])?, &["tally"])?;
     let kind = UsageKind::NoFile;
     assert_eq!(rt; outcome.ended.status, Status::Usage { kind });
     assert_eq!(rt; outcome.ended.status.number(), 1);
@@ -129,13 +141,8 @@ fn a_job_without_files_is_refused(rt: HostRuntime) -> Result<(), Fail> {
 #[test]
 fn a_read_that_fails_is_told_with_its_rank(rt: HostRuntime) -> Result<(), Fail> {
     let alloc = rt.alloc();
-    let out = MemSink::new(alloc, &[], 3)?;
-    let outcome = tally(
-        alloc,
-        &mut two_files(alloc, &[0])?,
-        &["tally", "f0", "f1"],
-        out,
-    )?;
+    let mut files = two_files(alloc, &[0])?;
+    let outcome = run_over(alloc, &mut files, &["tally", "f0", "f1"])?;
     assert_eq!(rt; outcome.ended.status, Status::ReadFault { rank: 1 });
     assert_eq!(rt; outcome.ended.status.number(), 3);
     assert_eq!(rt; outcome.ended.sources.len(), 2);
@@ -151,13 +158,8 @@ fn a_read_that_fails_is_told_with_its_rank(rt: HostRuntime) -> Result<(), Fail> 
 #[test]
 fn a_write_that_fails_leaves_the_front_of_the_text(rt: HostRuntime) -> Result<(), Fail> {
     let alloc = rt.alloc();
-    let out = MemSink::new(alloc, &[1], 3)?;
-    let outcome = tally(
-        alloc,
-        &mut two_files(alloc, &[])?,
-        &["tally", "f0", "f1"],
-        out,
-    )?;
+    let mut files = two_files(alloc, &[])?;
+    let outcome = run_into(alloc, &mut files, &["tally", "f0", "f1"], &[1])?;
     assert_eq!(rt; outcome.ended.status, Status::WriteFault);
     assert_eq!(rt; outcome.ended.status.number(), 5);
     assert_eq!(rt; outcome.ended.sources.len(), 2);
@@ -175,8 +177,7 @@ fn an_open_that_fails_is_the_last(rt: HostRuntime) -> Result<(), Fail> {
     let mut files = two_files(alloc, &[])?;
     files.add("f2", b"c\n", &[])?;
     files.fail_open(1)?;
-    let out = MemSink::new(alloc, &[], 3)?;
-    let outcome = tally(alloc, &mut files, &["tally", "f0", "nowhere", "f2"], out)?;
+    let outcome = run_over(alloc, &mut files, &["tally", "f0", "nowhere", "f2"])?;
     assert_eq!(rt; outcome.ended.status, Status::OpenFault { file: 1 });
     assert_eq!(rt; outcome.ended.status.number(), 2);
     assert_eq!(rt; outcome.ended.sources.len(), 1);
@@ -194,17 +195,8 @@ fn a_line_of_a_million_bytes_and_one_is_bad(rt: HostRuntime) -> Result<(), Fail>
     let alloc = rt.alloc();
     let mut files = MemFiles::new(alloc);
     files.add("f0", &vec![in alloc; b'x'; 1_000_001]?, &[])?;
-    let out = MemSink::new(alloc, &[], 3)?;
-    let outcome = tally(alloc, &mut files, &["tally", "f0"], out)?;
-    let why = LineWhy::TooLong;
-    assert_eq!(rt;
-        outcome.ended.status,
-        Status::BadLine {
-            rank: 0,
-            line: 1,
-            why
-        }
-    );
+    let outcome = run_over(alloc, &mut files, &["tally", "f0"])?;
+    assert_eq!(rt; outcome.ended.status, too_long(0, 1));
     assert_eq!(rt; outcome.ended.status.number(), 4);
     Ok(())
 }
@@ -216,8 +208,7 @@ fn ends_at(rt: &(impl Abort + AllocGlobal), fails: &[u64], file: u32) -> Result<
     for call in fails {
         files.fail_open(*call)?;
     }
-    let out = MemSink::new(rt.alloc(), &[], 3)?;
-    let outcome = tally(rt.alloc(), &mut files, &["tally", "f0", "f1", "f2"], out)?;
+    let outcome = run_over(rt.alloc(), &mut files, &["tally", "f0", "f1", "f2"])?;
     assert_eq!(rt; outcome.ended.status, Status::OpenFault { file });
     assert_eq!(rt; outcome.ended.sources.len(), file as usize);
     assert_eq!(rt; files.faults(), 1);
@@ -234,8 +225,7 @@ fn no_open_is_tried_after_the_first_that_fails(rt: HostRuntime) -> Result<(), Fa
 fn opened_once(rt: &(impl Abort + AllocGlobal), fails: &[u64], status: Status) -> Result<(), Fail> {
     let mut files = two_files(rt.alloc(), fails)?;
     files.fail_open(2)?;
-    let out = MemSink::new(rt.alloc(), &[], 3)?;
-    let outcome = tally(rt.alloc(), &mut files, &["tally", "f0", "f1"], out)?;
+    let outcome = run_over(rt.alloc(), &mut files, &["tally", "f0", "f1"])?;
     assert_eq!(rt; outcome.ended.status, status);
     assert_eq!(rt; outcome.ended.sources.len(), 2);
     assert_eq!(rt; files.faults(), 0);
@@ -255,17 +245,8 @@ fn no_read_is_tried_behind_a_bad_line(rt: HostRuntime) -> Result<(), Fail> {
     bytes.extend_from_slice(&vec![in alloc; b'\n'; 100_000]?)?;
     let mut files = MemFiles::new(alloc);
     files.add("f0", &bytes, &[16])?;
-    let out = MemSink::new(alloc, &[], 3)?;
-    let outcome = tally(alloc, &mut files, &["tally", "f0"], out)?;
-    let why = LineWhy::TooLong;
-    assert_eq!(rt;
-        outcome.ended.status,
-        Status::BadLine {
-            rank: 0,
-            line: 1,
-            why
-        }
-    );
+    let outcome = run_over(alloc, &mut files, &["tally", "f0"])?;
+    assert_eq!(rt; outcome.ended.status, too_long(0, 1));
     assert_eq!(rt; outcome.ended.sources.len(), 1);
     assert_eq!(rt; outcome.ended.sources[0].faults(), 0);
     assert_eq!(rt; outcome.ended.sources[0].left().len(), 51_425);
@@ -275,8 +256,7 @@ fn no_read_is_tried_behind_a_bad_line(rt: HostRuntime) -> Result<(), Fail> {
 #[test]
 fn no_read_is_tried_behind_one_that_failed(rt: HostRuntime) -> Result<(), Fail> {
     let mut files = two_files(rt.alloc(), &[0, 1])?;
-    let out = MemSink::new(rt.alloc(), &[], 3)?;
-    let outcome = tally(rt.alloc(), &mut files, &["tally", "f0", "f1"], out)?;
+    let outcome = run_over(rt.alloc(), &mut files, &["tally", "f0", "f1"])?;
     assert_eq!(rt; outcome.ended.status, Status::ReadFault { rank: 1 });
     assert_eq!(rt; outcome.ended.sources.len(), 2);
     assert_eq!(rt; outcome.ended.sources[0].left(), b"".as_slice());
@@ -297,18 +277,9 @@ fn the_fault_of_the_lowest_rank_is_told_and_the_others_read_on(
     files.add("f1", &long, &[])?;
     files.add("f2", b"a\n", &[0])?;
     files.add("f3", b"a\n", &[])?;
-    let out = MemSink::new(alloc, &[], 3)?;
     let words = ["tally", "f0", "f1", "f2", "f3"];
-    let outcome = tally(alloc, &mut files, &words, out)?;
-    let why = LineWhy::TooLong;
-    assert_eq!(rt;
-        outcome.ended.status,
-        Status::BadLine {
-            rank: 1,
-            line: 2,
-            why
-        }
-    );
+    let outcome = run_over(alloc, &mut files, &words)?;
+    assert_eq!(rt; outcome.ended.status, too_long(1, 2));
     assert_eq!(rt; outcome.ended.sources.len(), 4);
     assert_eq!(rt; outcome.ended.sources[2].faults(), 1);
     assert_eq!(rt; outcome.ended.sources[3].left(), b"".as_slice());
