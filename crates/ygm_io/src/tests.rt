@@ -179,19 +179,20 @@ fn a_sink_over_a_writer_counts_its_faults(rt: HostRuntime) -> Result<(), Fail> {
     Ok(())
 }
 
-// Takes no byte at its first write, and all of each later one.
+// A write is interrupted at first, the next takes no byte, and each later one takes all.
 #[derive(Drop)]
 struct Hesitant {
-    has_waited: bool,
+    turn: u8,
 }
 
 impl Write for Hesitant {
     fn write(&mut self, bytes: &[u8]) -> io::Result<usize> {
-        if self.has_waited {
-            return Ok(bytes.len());
+        self.turn = self.turn.saturating_add(1);
+        match self.turn {
+            1 => Err(io::Error::from(ErrorKind::Interrupted)),
+            2 => Ok(0),
+            _ => Ok(bytes.len()),
         }
-        self.has_waited = true;
-        Ok(0)
     }
 
     fn flush(&mut self) -> io::Result<()> {
@@ -200,8 +201,10 @@ impl Write for Hesitant {
 }
 
 #[test]
-fn a_write_that_takes_no_byte_is_a_fault_and_not_tried_again(rt: HostRuntime) -> Result<(), Fail> {
-    let mut sink = StdSink::new(Hesitant { has_waited: false });
+fn a_write_is_tried_again_where_it_is_interrupted_and_not_where_it_takes_no_byte(
+    rt: HostRuntime,
+) -> Result<(), Fail> {
+    let mut sink = StdSink::new(Hesitant { turn: 0 });
     assert_eq!(rt; sink.write(b"abc"), Err(Failed));
     assert_eq!(rt; sink.faults(), 1);
     assert_eq!(rt; sink.write(b"abc"), Ok(3));
