@@ -27,11 +27,15 @@ pub fn fnv(bytes: &[u8]) -> u64
     hash
 }
 
-/// The rank that a key belongs to, in a world of so many ranks: its hash modulo their number.
+/// The rank that a key belongs to, in a world of so many ranks: its hash modulo their number. Where there
+/// is one rank alone, the key isn't hashed.
 pub fn owner_of_key(key: &[u8], ranks: u32) -> u32
     requires { 1 ≤ ranks }
     ensures value { result ≡ spec.owner_of_key key.now ranks }
     ensures below { result < ranks }
 {
+    if ranks == 1 {
+        return 0;
+    }
     (fnv(key) % u64::from(ranks)) as u32
 }
