@@ -118,7 +118,7 @@ impl Batch {
         }
         self.later_starts.reserve(1)?;
         append(&mut self.bytes, &letter)?;
-        self.later_starts.push(start)?;
+        self.later_starts.push_reserved(start);
         Ok(())
     }
 

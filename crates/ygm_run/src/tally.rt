@@ -98,7 +98,7 @@ pub(crate) fn tally<S: Source>(alloc: Global, sources: &mut [S]) -> Result<Vec<u
     ensures rests { AreRests S.left (map S.left sources.old) sources.new }
 {
     let Ok(layout) = Layout::new(sources.len() as u32, 1) else {
-        return Err(JobFault::NoMemory);
+        unreachable!();
     };
     let mut world = World::new(alloc, layout)?;
     read_all(alloc, &mut world, sources)?;
