@@ -21,7 +21,8 @@ abbrev pub good_lines : List (List ℕ) → List (List ℕ)
 good_lines [] = []
 good_lines (raw ∷ raws) = if nat_lt max_line (length raw) then [] else raw ∷ good_lines raws
 
--- nothing was read behind a read that failed: what is left was left before it, when the source had no fault
+-- What is left of a source of which a read failed was left of one without a fault, as it was before that read: behind it
+-- nothing was taken.
 abbrev pub NothingBehind : {S : Type 0} → (S → Told) → (S → ℕ) → S → Option InputFault → Type 0
 NothingBehind {S} left count source fault = fault ≡ Some Read → (before : S) × (count before ≡ 0) × (left before ≡ left source)
 
@@ -36,7 +37,7 @@ pub record IsRead {S : Type 0} (left : S → Told) (count : S → ℕ) (held : T
   pub to_its_end : fault ≡ None → NothingLeft (left source)
   -- what was read before a read failed has no bad line, and no more lines end in it than a rank sends letters
   pub before_read : fault ≡ Some Read → (front : List ℕ) × TakenFrom front held (left source) × (first_too_long (raw_lines front) ≡ None) × (ended_lines front ≤ 2 ^ 56)
-  -- and nothing was read behind it
+  -- and behind that read nothing was taken
   pub nothing_behind : NothingBehind left count source fault
   -- what was read before the piece that made a line bad has no bad line, and nothing was read behind that piece
   pub stops : (line : ℕ) (why : LineWhy) → fault ≡ Some (Bad line why) → (front piece : List ℕ) × (length piece ≤ 65536)

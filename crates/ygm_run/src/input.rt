@@ -41,7 +41,7 @@ fn take_turn<S: Source>(
     ensures full { IfErr result (λ fault. IfCountFull fault (λ limit. (limit ≡ 2 ^ 56) × (2 ^ 56 ≤ slice_index (sent_counts world.old.comms.items) rank)
         × (S.faults source.new ≡ S.faults source.old) × HasLine (to_come reader.old.held (S.left source.old)))) }
     ensures never_stopped { IfErr result NeverStopped }
-    ensures failed_read { IfOk result (λ fault. fault ≡ Some Read → S.left source.old ≡ S.left source.new) }
+    ensures failed_read_took_nothing { IfOk result (λ fault. fault ≡ Some Read → S.left source.old ≡ S.left source.new) }
     ensures rest { IsRest (S.left source.old) (S.left source.new) }
     ensures ranks { world.new.ranks ≡ world.old.ranks }
 {

@@ -148,7 +148,7 @@ impl LineReader {
         ensures too_long_number { IfTooLong result (λ line. line ≡ next_count self.old.given) }
 
         ensures cause { IsErrOf result LineFault.ReadFault → Rose (S.faults source.old) (S.faults source.new) }
-        // The read that failed was the turn's only one.
+        // Nothing was taken in a turn of which a read failed.
         ensures read_fault_takes_nothing { IsErrOf result LineFault.ReadFault → S.left source.new ≡ S.left source.old }
         // What was read before the fault has no other whole line, and none that is too long.
         ensures read_fault_is_partial { IsErrOf result LineFault.ReadFault →

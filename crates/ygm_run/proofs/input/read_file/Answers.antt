@@ -57,7 +57,7 @@ loop-fault-preserved g c =
       bound = omega (arith, now.bound (omega (arith, before.sent, before.bound)), now.sent, before.sent);
       going_on = λ e. now.going_on e ∙ before.going_on unfinished;
       ended = λ done. subst (λ k. EndedWith c.in_ok-fault.fault c.take_turn.new.reader (g.S.Source.left c.take_turn.new.source) k (g.S.Source.faults c.take_turn.new.source)) (before.going_on unfinished) (now.ended done);
-      behind = λ failed. (c.loop-fault.source, before.going_on unfinished, now.failed_read failed);
+      behind = λ failed. (c.loop-fault.source, before.going_on unfinished, now.failed_read_took_nothing failed);
       rest = rest_more (g.S.Source.left c.args.source.now) (g.S.Source.left c.loop-fault.source) (g.S.Source.left c.take_turn.new.source) before.rest c.take_turn.ensures.rest;
     }
 
