@@ -7,6 +7,7 @@ pub mod Counted
 pub mod Desks
 pub mod Entries
 pub mod Few
+pub mod FullLinks
 pub mod Held
 pub mod Kept
 pub mod Links
@@ -14,6 +15,7 @@ pub mod Lists
 pub mod OnPath
 pub mod Only
 pub mod Parts
+pub mod Posts
 pub mod Replayed
 pub mod Row
 pub mod Steps

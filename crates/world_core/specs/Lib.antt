@@ -9,6 +9,7 @@ pub mod Modest
 pub mod Trial
 pub mod Post
 pub mod Plain
+pub mod PlainCalls
 pub mod Desk
 pub mod Worked
 pub use Rattle.rising_counts.specs.Rising
