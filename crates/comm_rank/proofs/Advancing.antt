@@ -7,13 +7,13 @@ use Rattle.world_core.specs.Plain.{Plain, told_by}
 use Rattle.world_core.specs.Post.{SameStops}
 use Rattle.world_core.specs.World.{log_of}
 use Rattle.world_core.proofs.Lists.{prefix_trans}
-use Rattle.comm_rank.specs.Fault.{halted}
 use Rattle.comm_rank.specs.Fold.{Applies}
-use Rattle.comm_rank.specs.Rank.{Rank, IsSameRank}
+use Rattle.comm_rank.specs.Rank.{Rank, IsSameRank, halted}
 use Rattle.comm_rank.specs.Settled.{AreSameLinks, AreSameRanks, FailedAt, HasAdvanced, LogsGrow}
 use Rattle.comm_rank.specs.Turns.{Advanced, CutOff}
 use Rattle.comm_rank.specs.declared.fault.CommFault.{CommFault}
 use Rattle.comm_rank.proofs.Joining.{advanced_more}
+use Rattle.comm_rank.proofs.Same.{same_rank_more, same_rank_none}
 use Rattle.comm_rank.proofs.Stops.{if_stopped}
 
 pub same_item : {X : Type 0} (xs : List X) (k : ℕ) (x y : X) → slice_get xs k ≡ Some x → slice_get xs k ≡ Some y → x ≡ y
@@ -24,17 +24,6 @@ item_there xs ys k x e all = slice_get-get_or ys k x (let lt = slice_get_within 
 
 pub advanced_none : {C : Type 0} (apply : Applies C) (me : Rank C) (log : List Entry) → Advanced apply me me log log []
 advanced_none apply me log = record { ran = sym (append-nil _); contents = refl; sent = λ to. sym (append-nil _); run_count = omega arith; sent_count = omega arith }
-
-pub same_rank_none : {C : Type 0} (me : Rank C) → IsSameRank me me
-same_rank_none me = record { layout = refl; scheme = refl; here = refl; most = refl }
-
-same_rank_more : {C : Type 0} (a b c : Rank C) → IsSameRank a b → IsSameRank b c → IsSameRank a c
-same_rank_more a b c first second = record {
-  layout = second.layout ∙ first.layout;
-  scheme = second.scheme ∙ first.scheme;
-  here = second.here ∙ first.here;
-  most = second.most ∙ first.most;
-}
 
 pub same_ranks_none : {C : Type 0} (comms : List (Rank C)) → AreSameRanks comms comms
 same_ranks_none {C} comms rank b a e f = subst (IsSameRank b) (same_item comms rank b a e f) (same_rank_none b)

@@ -8,9 +8,9 @@ use Rattle.msg_codec.specs.declared.letter.Letter.{Letter}
 use Rattle.world_core.specs.declared.entry.Entry.{Entry}
 use Rattle.world_core.specs.Log.{batches_put, batches_taken, put_to}
 use Rattle.world_core.specs.Post.{SameFulls, Told, is_full_in, link_in}
-use Rattle.comm_rank.specs.Held.{OthersStand}
-use Rattle.comm_rank.specs.Puts.{Moved, NoneOrFull, PutUntil}
-use Rattle.comm_rank.specs.Turns.{FirstFull}
+use Rattle.comm_rank.specs.Moves.{Moved, PutUntil}
+use Rattle.comm_rank.specs.Store.{OthersUnchanged}
+use Rattle.comm_rank.specs.Turns.{FirstFull, NoneOrFull}
 use Rattle.comm_rank.proofs.PutOut.{same_batches_taken}
 
 -- a full link stays full
@@ -27,8 +27,8 @@ fuller ring batches ring' batches' n n' m m' r b long more h = by_test (nat_le r
 
 pub full_still : (here to : ℕ) (a b : List (List Letter)) (old new : Told) (placed : List Entry) → Moved here a b old new placed → IsTrue (is_full_in old here to) → IsTrue (is_full_in new here to)
 full_still here to a b old new placed m full =
-    let ring : new.ring ≡ old.ring = m.post.same.ring in
-    let batches : new.batches ≡ old.batches = m.post.same.batches in
+    let ring : new.ring ≡ old.ring = m.keeps.same.ring in
+    let batches : new.batches ≡ old.batches = m.keeps.same.batches in
     let put : batches_put to (new.log here) ≡ batches_put to (old.log here) ++ batches_put to placed = ap (batches_put to) m.log ∙ filter_map-append (put_to to) (old.log here) placed in
     let taken : batches_taken here (new.log to) ≡ batches_taken here (old.log to) = same_taken_there in
     let n : ℕ = length (batches_taken here (old.log to)) in
@@ -45,7 +45,7 @@ full_still here to a b old new placed m full =
       | inl e ↦
           let P : ℕ → Type 0 = λ r. batches_taken here (new.log r) ≡ batches_taken here (old.log r) in
           subst P (sym e) (ap (batches_taken here) m.log ∙ same_batches_taken here placed (old.log here) m.puts)
-      | inr other ↦ ap (batches_taken here) (m.post.same.other_logs to other)
+      | inr other ↦ ap (batches_taken here) (m.keeps.same.other_logs to other)
     ]
 
 abbrev pub Below : ℕ → Option ℕ → Type 0
@@ -53,8 +53,8 @@ Below n None = Unit {0}
 Below n (Some rank) = rank < n
 
 module _ (here to : ℕ) (a b : List (List Letter)) (old mid new : Told) (placed : List Entry) (serves : (rank : ℕ) → mid.serves rank ≡ old.serves rank)
-    (moved : Moved here a b mid new placed) (others : OthersStand to a b) (later : (d : ℕ) → to ≤ d → mid.fulls d ≡ old.fulls d) where
-  -- the counts of the other ranks stand
+    (moved : Moved here a b mid new placed) (others : OthersUnchanged to a b) (later : (d : ℕ) → to ≤ d → mid.fulls d ≡ old.fulls d) where
+  -- the counts of the other ranks are unchanged
   pub other_fulls : (full : Bool) → PutUntil full here to b mid new → (d : ℕ) → d ≢ to → new.fulls d ≡ mid.fulls d
   other_fulls true until d other = until.1.others d other
   other_fulls false until d other = until.1 d
@@ -63,10 +63,10 @@ module _ (here to : ℕ) (a b : List (List Letter)) (old mid new : Told) (placed
   none_or_full_next full until done d lt = elim (cases_eq d to) [
     | inl e ↦ let P : ℕ → Type 0 = λ r. NoneOrFull here r b old new in subst P (sym e) (at_last full until)
     | inr other ↦ elim (done d (omega arith)) [
-      | inl none ↦ inl (record { list = others.1 d other ∙ none.list; pairs = λ f. moved.none_more f d (none.pairs f) })
+      | inl none ↦ inl (others.others d other ∙ none)
       | inr met ↦ inr (record {
         rose = (let e : new.fulls d ≡ mid.fulls d = other_fulls full until d other in omega (arith, met.rose, e));
-        some = λ h. met.some (sym (others.1 d other) ∙ h);
+        some = λ h. met.some (sym (others.others d other) ∙ h);
         full = λ s. full_still here d a b mid new placed moved (met.full s);
       })
     ]
@@ -89,12 +89,22 @@ module _ (here to : ℕ) (a b : List (List Letter)) (old mid new : Told) (placed
     first_stays full first until lt h =
         let other : first ≢ to = (λ e. absurd (omega (arith, e))) in
         let e : new.fulls first ≡ mid.fulls first = other_fulls full until first other in
-        (h.0, omega (arith, h.1, e), λ none. h.2 (sym (others.1 first other) ∙ none), λ lower below. other_fulls full until lower (λ k. absurd (omega (arith, k))) ∙ h.3 lower below)
+        record {
+          within = h.within;
+          rose = omega (arith, h.rose, e);
+          some = λ none. h.some (sym (others.others first other) ∙ none);
+          lower = λ lower below. other_fulls full until lower (λ k. absurd (omega (arith, k))) ∙ h.lower lower below;
+        }
 
     pub first_here : to < ranks → PutUntil true here to b mid new → SameFulls old mid → FirstFull ranks b old new (Some to)
     first_here within until same =
         let e : mid.fulls to ≡ old.fulls to = same to in
-        (within, omega (arith, until.0.rose, e), until.0.some, λ lower below. other_fulls true until lower (λ k. absurd (omega (arith, k))) ∙ same lower)
+        record {
+          within = within;
+          rose = omega (arith, until.0.rose, e);
+          some = until.0.some;
+          lower = λ lower below. other_fulls true until lower (λ k. absurd (omega (arith, k))) ∙ same lower;
+        }
 
     pub none_stays : PutUntil false here to b mid new → SameFulls old mid → FirstFull ranks b old new None
     none_stays until same d = until.1 d ∙ same d

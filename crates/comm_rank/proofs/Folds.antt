@@ -6,15 +6,16 @@ use Rattle.msg_codec.specs.declared.letter.Letter.{Letter}
 use Rattle.comm_rank.specs.declared.handler.Outbound.{Outbound}
 use Rattle.comm_rank.specs.declared.fault.CommFault.{CommFault}
 use Rattle.comm_rank.specs.declared.fault.CommFault.TheVariants.{Stopped, CountFull, NoMemory}
-use Rattle.comm_rank.specs.Fault.{IfCountFull}
+use Rattle.comm_rank.specs.Fault.{IfCountFull, IsFullAt, NeverStopped}
 use Rattle.comm_rank.specs.Fold.{Applies, letter_by, given_by, fold_from, handed_from}
+use Rattle.world_core.specs.Log.{letters_of}
 use Rattle.comm_rank.specs.Held.{Gains}
-use Rattle.comm_rank.specs.Rank.{Rank, folded, handed}
-use Rattle.comm_rank.specs.Turns.{HasBegun, IsFullBehind}
+use Rattle.comm_rank.specs.Rank.{IsSameRank, Rank, folded, handed, held_letters}
+use Rattle.comm_rank.specs.Turns.{HasBegun, IsCause, IsFullBehind}
 use Rattle.ygm_route.specs.Layout.{Shape}
 use Rattle.world_core.proofs.Lists.{all_append, all_second}
 use Rattle.comm_rank.proofs.Gaining.{gains_none, gains_more}
-use Rattle.comm_rank.specs.Running.{IsFor, IsOf, HasRunAll, IsStuck, RanFirst}
+use Rattle.comm_rank.specs.Running.{IsFor, IsOf, HasRunAll, IsStuck, RanFirst, StuckFirst, StuckIn}
 use Rattle.comm_rank.specs.Sends.{IsData}
 
 pub fold-append : {C : Type 0} (apply : Applies C) (here ranks : ℕ) (c : C) (xs ys : List Letter) →
@@ -44,10 +45,23 @@ pub on_err : {A E : Type 0} (r : Result A E) (P : Type 0) → P → OnErr r P
 on_err (Ok a) P p = tt
 on_err (Err e) P p = p
 
-pub full_weaker : (P Q : ℕ → Type 0) → ((at : ℕ) → P at → Q at) → (fault : CommFault) → IfCountFull fault P → IfCountFull fault Q
-full_weaker P Q more Stopped h = tt
-full_weaker P Q more NoMemory h = tt
-full_weaker P Q more (CountFull at) h = more at h
+pub if_full : {P Q : ℕ → Type 0} (fault : CommFault) → ((at : ℕ) → P at → Q at) → IfCountFull fault P → IfCountFull fault Q
+if_full Stopped more h = tt
+if_full NoMemory more h = tt
+if_full (CountFull at) more h = more at h
+
+pub full_at : (count most most' : ℕ) → most' ≡ most → (fault : CommFault) → IsFullAt count most fault → IsFullAt count most' fault
+full_at count most most' e (CountFull at) h = (h.0 ∙ sym e, h.1 ∙ sym e)
+full_at count most most' e Stopped h = tt
+full_at count most most' e NoMemory h = tt
+
+-- the cause of a fault, as the rank had it before
+pub cause_on : {C : Type 0} (apply : Applies C) (old mid new : Rank C) → mid.most ≡ old.most → (fault : CommFault) → IsCause apply mid new fault → IsCause apply old new fault
+cause_on apply old mid new most fault cause = record {
+  count_full = full_at new.sent_count mid.most old.most (sym most) fault cause.count_full;
+  gave = cause.gave;
+  never_stopped = cause.never_stopped;
+}
 
 pub first_of : (waiting : List Letter) (l : Letter) → slice_get waiting 0 ≡ Some l → waiting ≡ l ∷ drop 1 waiting
 first_of [] l h = absurd cc
@@ -57,13 +71,24 @@ first_of (x ∷ waiting) l h = let same : x ≡ l = cc in ap (λ y. y ∷ waitin
 
 module _ {C : Type 0} (apply : Applies C) (was old new : Rank C) (e : was ≡ old) where
   -- its handler refused it, and nothing changed
-  pub stuck_refused : new.contents ≡ was.contents → new.held ≡ was.held → new.run_count ≡ was.run_count → new.sent_count ≡ was.sent_count → IsStuck apply old new [] []
+  stuck_refused : new.contents ≡ was.contents → new.held ≡ was.held → new.run_count ≡ was.run_count → new.sent_count ≡ was.sent_count → IsStuck apply old new [] []
   stuck_refused contents held run_count sent_count = subst (λ (me : Rank C). IsStuck apply me new [] []) e (record {
     begun = inl (contents, refl);
-    held = subst (λ h. Gains was.held h []) (sym held) (gains_none was.held);
+    held = subst (λ h. Gains (held_letters was) (letters_of h) []) (sym held) (gains_none (held_letters was));
     lawful = tt;
     run_count = omega (arith, run_count);
     sent_count = omega (arith, sent_count);
+  })
+
+  -- its handler refused
+  pub first_refused : new.contents ≡ was.contents → new.held ≡ was.held → new.run_count ≡ was.run_count → new.sent_count ≡ was.sent_count → new.waiting ≡ was.waiting →
+      (fault : CommFault) → fault ≡ NoMemory → StuckFirst apply old new fault
+  first_refused contents held run_count sent_count waits fault is = subst (StuckFirst apply old new) (sym is) (record {
+    given = [];
+    stuck = stuck_refused contents held run_count sent_count;
+    still_waits = waits ∙ ap (λ (me : Rank C). me.waiting) e;
+    full_at_first = tt;
+    cause = record { count_full = tt; gave = tt; never_stopped = tt };
   })
 
   module _ (outs : List Outbound) (l : Letter) (is : outs ≡ (apply was.contents was.here was.layout.ranks l).1) (made : new.contents ≡ (apply was.contents was.here was.layout.ranks l).0)
@@ -73,7 +98,7 @@ module _ {C : Type 0} (apply : Applies C) (was old new : Rank C) (e : was ≡ ol
 
     -- of what its handler gave only the first is held
     pub stuck_sending : (k : ℕ) → new.waiting ≡ was.waiting → k < length outs →
-        Gains was.held new.held (take k (map (letter_by was.here) outs)) → new.run_count ≡ was.run_count → new.sent_count ≡ was.sent_count + k →
+        Gains (held_letters was) (held_letters new) (take k (map (letter_by was.here) outs)) → new.run_count ≡ was.run_count → new.sent_count ≡ was.sent_count + k →
         (x : List Letter) × IsStuck apply old new [] x
     stuck_sending k waits few held run_count sent_count = (
       take k (map (letter_by was.here) outs),
@@ -87,7 +112,7 @@ module _ {C : Type 0} (apply : Applies C) (was old new : Rank C) (e : was ≡ ol
     )
 
     -- all that its handler gave is held
-    pub ran_first : new.waiting ≡ drop 1 was.waiting → Gains was.held new.held (map (letter_by was.here) outs) →
+    pub ran_first : new.waiting ≡ drop 1 was.waiting → Gains (held_letters was) (held_letters new) (map (letter_by was.here) outs) →
         new.run_count ≡ was.run_count + 1 → new.sent_count ≡ was.sent_count + length outs → RanFirst apply old new
     ran_first rest held run_count sent_count =
         let all : map (letter_by was.here) outs ≡ handed apply was (l ∷ []) = given_is ∙ sym (append-nil (given_by apply was.here was.layout.ranks was.contents l)) in
@@ -96,7 +121,7 @@ module _ {C : Type 0} (apply : Applies C) (was old new : Rank C) (e : was ≡ ol
           first = first_of was.waiting l first ∙ ap (λ w. l ∷ w) (sym rest);
           ran = record {
             contents = made;
-            held = subst (Gains was.held new.held) all held;
+            held = subst (Gains (held_letters was) (held_letters new)) all held;
             lawful = subst (AllByRecursion (IsOf was.here)) all (given_of was.layout.ranks was.here outs lawful);
             run_count = run_count;
             sent_count = omega (arith, sent_count, ap length all, length-map outs (letter_by was.here));
@@ -114,6 +139,25 @@ full_behind {C} apply was old new e outs l is first waits more =
       waits = ap (λ w. slice_get w 0) waits ∙ first;
       too_many = omega (arith, more, size, ap length (append-nil given));
     })
+
+-- not all that its handler gave could be sent
+pub first_cut_short : {C : Type 0} (apply : Applies C) (was old new : Rank C) (e : was ≡ old) (outs : List Outbound) (l : Letter) → outs ≡ (apply was.contents was.here was.layout.ranks l).1 →
+    new.contents ≡ (apply was.contents was.here was.layout.ranks l).0 → AllByRecursion (IsData was.layout.ranks) outs → slice_get was.waiting 0 ≡ Some l →
+    (k : ℕ) → new.waiting ≡ was.waiting → k < length outs → Gains (held_letters was) (held_letters new) (take k (map (letter_by was.here) outs)) → new.run_count ≡ was.run_count → new.sent_count ≡ was.sent_count + k →
+    (fault : CommFault) → IsFullAt new.sent_count was.most fault → IfCountFull fault (λ _. was.most < was.sent_count + length outs) → NeverStopped fault → StuckFirst apply old new fault
+first_cut_short {C} apply was old new e outs l is made lawful first k waits few held run_count sent_count fault count_full too_many never =
+    let stuck = stuck_sending apply was old new e outs l is made lawful first k waits few held run_count sent_count in
+    record {
+      given = stuck.0;
+      stuck = stuck.1;
+      still_waits = waits ∙ ap (λ (me : Rank C). me.waiting) e;
+      full_at_first = if_full fault (λ _ more. full_behind apply was old new e outs l is first waits more) too_many;
+      cause = record {
+        count_full = subst (λ (me : Rank C). IsFullAt new.sent_count me.most fault) e count_full;
+        gave = if_full fault (λ _ more. (was.contents, was.here, was.layout.ranks, l, omega (arith, few, ap length is))) too_many;
+        never_stopped = never;
+      };
+    }
 
 -- what a handler gave where nothing was given before, and what it made of its contents
 pub outs_are : {C : Type 0} (apply : Applies C) (here n m : ℕ) (c : C) (l : Letter) (old new : List Outbound) → n ≡ m → old ≡ [] → new ≡ old ++ (apply c here n l).1 → new ≡ (apply c here m l).1
@@ -153,7 +197,7 @@ module _ {C : Type 0} (apply : Applies C) (old mid new : Rank C) (same_here : mi
       let on : handed apply old (run ++ more) ≡ handed apply old run ++ handed apply mid more = handed_on run first.contents more in
       record {
         contents = second.contents ∙ folded_on run first.contents more;
-        held = subst (Gains old.held new.held) (sym on) (gains_more old.held mid.held new.held _ _ first.held second.held);
+        held = subst (Gains (held_letters old) (held_letters new)) (sym on) (gains_more (held_letters old) (held_letters mid) (held_letters new) _ _ first.held second.held);
         lawful = subst (AllByRecursion (IsOf old.here)) (sym on)
             (all_append (IsOf old.here) (handed apply old run) (handed apply mid more) first.lawful (subst (λ h. AllByRecursion (IsOf h) (handed apply mid more)) same_here second.lawful));
         run_count = omega (arith, first.run_count, second.run_count, length-append run more);
@@ -173,7 +217,7 @@ module _ {C : Type 0} (apply : Applies C) (old mid new : Rank C) (same_here : mi
       ap (λ xs. xs ++ given) on ∙ append_assoc (handed apply old run) (handed apply mid more) given in
       record {
         begun = begun_same new.waiting given _ _ new.contents (folded_on run first.contents more) second.begun;
-        held = subst (Gains old.held new.held) (sym on_given) (gains_more old.held mid.held new.held _ _ first.held second.held);
+        held = subst (Gains (held_letters old) (held_letters new)) (sym on_given) (gains_more (held_letters old) (held_letters mid) (held_letters new) _ _ first.held second.held);
         lawful = subst (AllByRecursion (IsOf old.here)) (sym on_given)
             (all_append (IsOf old.here) (handed apply old run) (handed apply mid more ++ given) first.lawful (subst (λ h. AllByRecursion (IsOf h) (handed apply mid more ++ given)) same_here second.lawful));
         run_count = omega (arith, first.run_count, second.run_count, length-append run more);
@@ -198,7 +242,19 @@ module _ {C : Type 0} (apply : Applies C) (old mid new : Rank C) (same_here : mi
         );
       }
 
--- the letters behind the first of those that waited
+-- the first letters ran, and then one couldn't
+pub stuck_among : {C : Type 0} (apply : Applies C) (old mid new : Rank C) → IsSameRank old mid → (run : List Letter) → old.waiting ≡ run ++ mid.waiting → HasRunAll apply old mid run →
+    (fault : CommFault) → StuckFirst apply mid new fault → StuckIn apply old new old.waiting fault
+stuck_among apply old mid new same run waits ran fault stuck = record {
+  run = run ++ [];
+  given = stuck.given;
+  waits = waits ∙ ap (λ w. run ++ w) (sym stuck.still_waits) ∙ ap (λ w. w ++ new.waiting) (sym (append-nil run));
+  stuck = stuck_later apply old mid new same.here same.layout run [] stuck.given ran stuck.stuck;
+  full_at_first = if_full fault (λ _ behind. full_later apply old mid new same.here same.layout run [] same.most ran.contents ran.sent_count behind) stuck.full_at_first;
+  cause = cause_on apply old mid new same.most fault stuck.cause;
+}
+
+-- the letters after the first of those that waited
 pub waits_one_less : (waiting run rest now : List Letter) (l : Letter) → waiting ≡ run ++ rest → rest ≡ l ∷ now → waiting ≡ (run ++ l ∷ []) ++ now
 waits_one_less waiting run rest now l e f = e ∙ ap (λ w. run ++ w) f ∙ sym (append_assoc run (l ∷ []) now)
 

@@ -8,7 +8,8 @@ use Rattle.msg_codec.specs.declared.letter.Letter.{Letter}
 use Rattle.world_core.specs.Log.{letters_of}
 use Rattle.world_core.specs.Pairs.{is_data, is_of_pair, of_pair, of_sender}
 use Rattle.world_core.proofs.Lists.{all_append, all_weaker, filter_none, and_second}
-use Rattle.comm_rank.specs.Held.{AreApart, AreHeld, Gains, IsHeldFor, Loses, held_for, holding}
+use Rattle.comm_rank.specs.Held.{Gains, held_for}
+use Rattle.comm_rank.specs.Store.{AreApart, AreHeld, IsHeldFor, Loses, holding}
 
 -- ---- each list has its destination's letters
 
@@ -102,7 +103,7 @@ pair_in n lists to s d now held within each = apart n (set lists to now) d (one_
 held_to : (n to : ℕ) (ls : List Letter) (d : ℕ) → d ≢ to → AllByRecursion (IsHeldFor n to) ls → None_to d ls
 held_to n to ls d other each = all_weaker _ _ ls (λ l h e. other (sym e ∙ h.destination)) each
 
-pub gains : (n : ℕ) (lists : List (List Letter)) (l : Letter) → AreHeld n lists → l.to < n → IsHeldFor n l.to l → Gains lists (holding lists l) (l ∷ [])
+pub gains : (n : ℕ) (lists : List (List Letter)) (l : Letter) → AreHeld n lists → l.to < n → IsHeldFor n l.to l → Gains (letters_of lists) (letters_of (holding lists l)) (l ∷ [])
 gains n lists l held within is =
     let was : List Letter = held_for lists l.to in
     let each : AllByRecursion (IsHeldFor n l.to) (was ++ l ∷ []) = all_append (IsHeldFor n l.to) was (l ∷ []) (held.each l.to within) (is, tt) in

@@ -14,9 +14,10 @@ use Rattle.world_core.specs.Rising.{Rose}
 use Rattle.world_core.proofs.Lists.{all_append, all_weaker}
 use Rattle.comm_rank.specs.Fold.{Applies}
 use Rattle.comm_rank.specs.Rank.{Rank, IsSameRank, handed, ran_at, sent_to}
-use Rattle.comm_rank.specs.Running.{CutFrom, NotLookedAt, PostTook, TookBelow, TookFrom}
-use Rattle.comm_rank.specs.Turns.{Advanced, CutOff, FullAtFirst, IsTake, LookedAt, other_end}
-use Rattle.comm_rank.proofs.Folds.{begun_same, folded_on, full_later, handed_on}
+use Rattle.comm_rank.specs.declared.fault.CommFault.{CommFault}
+use Rattle.comm_rank.specs.Running.{CutFrom, NotLookedAt, TookBelow, TookFrom, WasCutFrom}
+use Rattle.comm_rank.specs.Turns.{Advanced, CutOff, FullAtFirst, IsTake, LookedAt, WasCut, other_end}
+use Rattle.comm_rank.proofs.Folds.{begun_same, cause_on, folded_on, full_later, handed_on, if_full}
 
 -- ---- in the order of ranks
 
@@ -94,8 +95,8 @@ module _ {C : Type 0} (apply : Applies C) (old mid new : Rank C) (before between
           below = below_more from first.all.taken later first.below second.alone;
         }
 
-    pub cut_later : CutFrom from apply mid new between after → CutOff apply old new before after
-    cut_later second =
+    cut_on : CutFrom from apply mid new between after → CutOff apply old new before after
+    cut_on second =
         let c = second.cut in
         let run = for_rank old.here (letters_taken first.all.taken) in
         let n = letters_taken c.taken in
@@ -123,7 +124,7 @@ module _ {C : Type 0} (apply : Applies C) (old mid new : Rank C) (before between
               omega (arith, first.all.advanced.sent_count, c.sent_count, ap length (handed_both run c.run first.all.advanced), length-append (handed apply old run) (handed apply mid c.run));
         }
 
-    pub full_joined : FullAtFirst apply mid new between after → FullAtFirst apply old new before after
+    full_joined : FullAtFirst apply mid new between after → FullAtFirst apply old new before after
     full_joined second =
         let ahead = first.all.advanced in
         let run = for_rank old.here (letters_taken first.all.taken) in
@@ -132,6 +133,13 @@ module _ {C : Type 0} (apply : Applies C) (old mid new : Rank C) (before between
           ran = second.ran ∙ ap (λ xs. xs ++ second.run) ahead.ran ∙ append_assoc (ran_at old before) run second.run;
           behind = full_later apply old mid new same.here same.layout run second.run same.most ahead.contents ahead.sent_count second.behind;
         }
+
+    pub cut_later : (fault : CommFault) → WasCutFrom from apply mid new between after fault → WasCut apply old new before after fault
+    cut_later fault second = record {
+      cut_off = cut_on second.cut_from;
+      full_at_first = if_full fault (λ _ full. full_joined full) second.full_at_first;
+      cause = cause_on apply old mid new same.most fault second.cause;
+    }
 
 pub took_nothing : {C : Type 0} (apply : Applies C) (me : Rank C) (log : List Entry) (bound : ℕ) → me.waiting ≡ [] → TookBelow bound apply me me log log 0
 took_nothing apply me log bound none = record {
@@ -146,29 +154,6 @@ took_nothing apply me log bound none = record {
 }
 
 -- ---- at the post
-
-pub post_none : (here : ℕ) (told : Told) → PostTook here told told
-post_none here told = record {
-  same = record { layout = refl; scheme = refl; ring = refl; batches = refl; serves = λ rank. refl; other_logs = λ rank ne. refl };
-  stops = λ rank. refl;
-  fulls = λ rank. refl;
-  halts = refl;
-}
-
-pub post_more : (here there : ℕ) (a b c : Told) → there ≡ here → PostTook here a b → PostTook there b c → PostTook here a c
-post_more here there a b c e first second = record {
-  same = record {
-    layout = second.same.layout ∙ first.same.layout;
-    scheme = second.same.scheme ∙ first.same.scheme;
-    ring = second.same.ring ∙ first.same.ring;
-    batches = second.same.batches ∙ first.same.batches;
-    serves = λ rank. second.same.serves rank ∙ first.same.serves rank;
-    other_logs = λ rank ne. second.same.other_logs rank (λ f. ne (f ∙ e)) ∙ first.same.other_logs rank ne;
-  };
-  stops = λ rank. second.stops rank ∙ first.stops rank;
-  fulls = λ rank. second.fulls rank ∙ first.fulls rank;
-  halts = second.halts ∙ first.halts;
-}
 
 -- what happens afterwards takes nothing from the rank and misses nothing there, as puts do
 pub looked_still : (here from : ℕ) (a b c : Told) → LookedAt here from a b → batches_taken from (c.log here) ≡ batches_taken from (b.log here) → c.misses from ≡ b.misses from → LookedAt here from a c

@@ -8,6 +8,7 @@ pub mod Gaining
 pub mod Holding
 pub mod Joining
 pub mod Keeping
+pub mod Kept
 pub mod Loading
 pub mod Moving
 pub mod PlainTurns
@@ -15,10 +16,12 @@ pub mod PutOut
 pub mod Puts
 pub mod Queues
 pub mod Rounds
+pub mod Same
 pub mod Sending
 pub mod Settling
 pub mod Singles
 pub mod Standing
 pub mod Stops
+pub mod Taken
 pub mod Taking
 pub mod Turning

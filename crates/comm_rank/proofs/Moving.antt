@@ -17,10 +17,10 @@ use Rattle.world_core.proofs.Counted.{pair_of_sender}
 use Rattle.comm_rank.specs.declared.turn.Turn.{Turn}
 use Rattle.comm_rank.specs.Agrees.{Agrees}
 use Rattle.comm_rank.specs.Fold.{Applies}
-use Rattle.comm_rank.specs.Puts.{NoneOrFull}
 use Rattle.comm_rank.specs.Rank.{Rank, IsSameRank, handed, held_letters, sent_to}
 use Rattle.comm_rank.specs.Settled.{AreRanks, AreSameLinks, AreSameRanks, HasAdvanced, IsLoaded, IsRankOf, NeverLess, SameLogs, TurnMoves, Untouched, held_in, sent_length, taken_length}
-use Rattle.comm_rank.specs.Turns.{Advanced, LookedAt, Turned}
+use Rattle.comm_rank.specs.Store.{AreApart}
+use Rattle.comm_rank.specs.Turns.{Advanced, LookedAt, NoneOrFull, Turned}
 use Rattle.comm_rank.proofs.Advancing.{same_item, stands}
 use Rattle.comm_rank.proofs.Loading.{carried_few, empty_link, one_more}
 use Rattle.comm_rank.proofs.Rounds.{same_taken}
@@ -189,7 +189,7 @@ module _ {C : Type 0} (apply : Applies C) (start : C → C) (comms : List (Rank 
       taken = taken_stays from to t;
     }
 
-    module _ (v : IsWorld old.world) (w : IsWorld new.world) (room : 1 ≤ old.ring) (direct : me.scheme ≡ Direct) (few : now.sent_count ≤ now.most) where
+    module _ (v : IsWorld old.world) (w : IsWorld new.world) (room : 1 ≤ old.ring) (direct : me.scheme ≡ Direct) (few : now.sent_count ≤ now.most) (apart : (to : ℕ) → AreApart now.held to) where
       was_direct : old.world.scheme ≡ Direct
       was_direct = sym mine.scheme ∙ direct
 
@@ -227,7 +227,7 @@ module _ {C : Type 0} (apply : Applies C) (start : C → C) (comms : List (Rank 
           let put = empty_link new.world w is_direct some_now rank to none in
           let here : rank < new.world.layout.ranks = omega (arith, within, ranks.all, count) in
           elim (at.puts to (omega (arith, lt, count, count_me))) [
-            | inl empty ↦ omega (arith, put, held_more to, ap length (empty.pairs rank))
+            | inl empty ↦ omega (arith, put, held_more to, ap length (apart to rank), ap (λ ls. length (of_pair rank to ls)) empty)
             | inr met ↦ elim (or_cases _ _ (met.full (lt-ltb to old.world.layout.ranks (omega (arith, lt, count))))) [
               | inl full ↦
                   let long : new.ring ≤ length (link new.world rank to) = leb-true new.ring (length (link new.world rank to)) full in

@@ -1,7 +1,7 @@
 -- A rank agrees with its log still, once it put some of what it holds.
-use Rattle.std.proofs.Common.{◌≡◌, ◌≢◌, ℕ, ◌+◌, ◌-◌, ◌<◌, ◌≤◌, List, [], ◌∷◌, ◌++◌, length, take, refl, sym, ap, ◌∙◌, subst, append-nil, append_assoc, arith, ◌^◌}
-use Rattle.std.specs.Bool.{IsTrue}
+use Rattle.std.proofs.Common.{◌≡◌, ◌≢◌, ℕ, ◌+◌, ◌-◌, ◌<◌, ◌≤◌, Option, Result, Ok, Err, List, [], ◌∷◌, ◌++◌, length, take, refl, sym, ap, ◌∙◌, subst, append-nil, append_assoc, arith, ◌^◌}
 use Rattle.std.specs.List.{AllByRecursion}
+use Rattle.std.specs.Result.{IfErr, IfOk}
 use Rattle.msg_codec.specs.declared.letter.Letter.{Letter}
 use Rattle.ygm_route.specs.declared.scheme.Scheme.TheVariants.{Direct}
 use Rattle.ygm_route.specs.Layout.{Shape}
@@ -11,15 +11,17 @@ use Rattle.world_core.specs.Local.{Local}
 use Rattle.world_core.specs.Log.{batches_taken, letters_of, letters_taken}
 use Rattle.world_core.specs.Modest.{IsLawful, IsModest}
 use Rattle.world_core.specs.Pairs.{arrived, for_rank, of_pair, of_sender, own}
-use Rattle.world_core.specs.Post.{Told}
+use Rattle.world_core.specs.Post.{SamePost, Told, local_at}
+use Rattle.world_core.specs.Rules.{IsHonest}
 use Rattle.world_core.specs.Sound.{IsOnPath}
 use Rattle.world_core.proofs.Lists.{all_weaker}
 use Rattle.world_core.proofs.Entries.{letters_taken-put, batches_taken-put}
-use Rattle.comm_rank.specs.Agrees.{Agrees, IsSublist}
+use Rattle.comm_rank.specs.Agrees.{Agrees, Belongs, IsSublist}
 use Rattle.comm_rank.specs.Fold.{Applies, fold_from, handed_from}
-use Rattle.comm_rank.specs.Puts.{MayPut, Moved, PutOut}
+use Rattle.comm_rank.specs.declared.fault.CommFault.{CommFault}
+use Rattle.comm_rank.specs.Moves.{HasPutAll, HasPutEach, MayPut, Moved, PutAllFailed, PutOut, PutsFailed}
 use Rattle.comm_rank.specs.Rank.{Rank, held_letters, local_of, ran_at, sent_to}
-use Rattle.comm_rank.specs.Turns.{IsPut}
+use Rattle.comm_rank.specs.Turns.{FirstFull, IsPut}
 use Rattle.comm_rank.proofs.Direct.{nothing_to_forward}
 
 -- ---- what a log took stands as it gains puts
@@ -61,13 +63,13 @@ module _ {C : Type 0} (apply : Applies C) (start : C → C) (me : Rank C) (log :
     abbrev new : Rank C
     new = record me { held = held }
 
-    pub ran_stands : ran_at new now ≡ ran_at me log
-    ran_stands =
+    pub ran_unchanged : ran_at new now ≡ ran_at me log
+    ran_unchanged =
         let same : arrived me.here now ≡ arrived me.here log = ap (arrived me.here) gained ∙ ap (for_rank me.here) (same_taken placed log puts) in
         ap (λ xs. take (length xs - length (for_rank me.here me.waiting)) xs) same
 
-    module _ (sent_stands : (to : ℕ) → sent_to new now to ≡ sent_to me log to)
-        (count_stands : length (own me.here now) + length (of_sender me.here (letters_of held)) ≡ length (own me.here log) + length (of_sender me.here (held_letters me)))
+    module _ (sent_unchanged : (to : ℕ) → sent_to new now to ≡ sent_to me log to)
+        (count_unchanged : length (own me.here now) + length (of_sender me.here (letters_of held)) ≡ length (own me.here log) + length (of_sender me.here (held_letters me)))
         (alone : (from to : ℕ) → from ≢ me.here → of_pair from to (letters_of held) ≡ []) where
       pub agrees_still : Agrees apply start new now
       agrees_still =
@@ -76,41 +78,81 @@ module _ {C : Type 0} (apply : Applies C) (start : C → C) (me : Rank C) (log :
           record {
             nothing_waits = agrees.nothing_waits;
             forwards = λ from to other. alone from to other ∙ sym (nothing_to_forward (local_of new now) direct modest from to);
-            sent_count = agrees.sent_count ∙ sym count_stands;
-            run_count = agrees.run_count ∙ ap length (sym ran_stands);
-            contents = agrees.contents ∙ ap (fold_from apply me.here me.layout.ranks (start me.contents)) (sym ran_stands);
+            sent_count = agrees.sent_count ∙ sym count_unchanged;
+            run_count = agrees.run_count ∙ ap length (sym ran_unchanged);
+            contents = agrees.contents ∙ ap (fold_from apply me.here me.layout.ranks (start me.contents)) (sym ran_unchanged);
             answered = λ to.
                 let Q : List Letter → List Letter → Type 0 = λ ran sent. IsSublist (of_pair me.here to (handed_from apply me.here me.layout.ranks (start me.contents) ran)) sent in
-                subst (λ ran. Q ran (sent_to new now to)) (sym ran_stands) (subst (λ sent. Q (ran_at me log) sent) (sym (sent_stands to)) (agrees.answered to));
+                subst (λ ran. Q ran (sent_to new now to)) (sym ran_unchanged) (subst (λ sent. Q (ran_at me log) sent) (sym (sent_unchanged to)) (agrees.answered to));
             modest = modest;
           }
 
 -- ---- from what puts did to what is held
 
-module _ {C : Type 0} (apply : Applies C) (start : C → C) (me : Rank C) (old : Told) (agrees : Agrees apply start me (old.log me.here)) (direct : me.scheme ≡ Direct) where
-  pub may_put : me.here < me.layout.ranks → length me.held ≡ me.layout.ranks → old.layout ≡ me.layout → old.scheme ≡ me.scheme → IsTrue (old.serves me.here) →
-      me.sent_count ≤ 2 ^ 56 → MayPut me.here me.held old
-  may_put within all layout scheme serves few =
-      let ranks : old.layout.ranks ≡ me.layout.ranks = ap (λ (l : Shape). l.ranks) layout in
+module _ {C : Type 0} (apply : Applies C) (start : C → C) (me : Rank C) (old : Told) (belongs : Belongs apply start me old) (direct : me.scheme ≡ Direct) where
+  agrees : Agrees apply start me (old.log me.here)
+  agrees = belongs.agrees
+
+  pub may_put : me.here < me.layout.ranks → length me.held ≡ me.layout.ranks → me.sent_count ≤ 2 ^ 56 → MayPut me.here me.held old
+  may_put within all few =
+      let ranks : old.layout.ranks ≡ me.layout.ranks = ap (λ (l : Shape). l.ranks) belongs.layout in
       record {
         all = all ∙ sym ranks;
         within = omega (arith, within, ranks);
-        serves = serves;
-        direct = scheme ∙ direct;
+        serves = belongs.serves;
+        direct = belongs.scheme ∙ direct;
         own_alone = own_alone apply start me (old.log me.here) agrees direct;
         few = omega (arith, few, agrees.sent_count);
       }
 
   module _ (held : List (List Letter)) (new : Told) (placed : List Entry) (moved : Moved me.here me.held held old new placed) where
-    pub put_out : PutOut me (record me { held = held }) (old.log me.here) (new.log me.here) placed
+    put_out : PutOut me (record me { held = held }) (old.log me.here) (new.log me.here) placed
     put_out = record {
       log = moved.log;
       puts = moved.puts;
       rank = refl;
-      sent = moved.sent_stands;
-      ran = ran_stands apply start me (old.log me.here) agrees direct held (new.log me.here) placed moved.log moved.puts;
+      sent = moved.sent_unchanged;
+      ran = ran_unchanged apply start me (old.log me.here) agrees direct held (new.log me.here) placed moved.log moved.puts;
     }
 
-    pub agrees_after : Agrees apply start (record me { held = held }) (new.log me.here)
-    agrees_after = agrees_still apply start me (old.log me.here) agrees direct held (new.log me.here) placed moved.log moved.puts moved.sent_stands moved.count_stands
+    agrees_after : Agrees apply start (record me { held = held }) (new.log me.here)
+    agrees_after = agrees_still apply start me (old.log me.here) agrees direct held (new.log me.here) placed moved.log moved.puts moved.sent_unchanged moved.count_unchanged
         (λ from to other. moved.none_more from to (own_alone apply start me (old.log me.here) agrees direct from to other))
+
+    pub belongs_after : Belongs apply start (record me { held = held }) new
+    belongs_after = record {
+      serves = moved.keeps.same.serves me.here ∙ belongs.serves;
+      layout = moved.keeps.same.layout ∙ belongs.layout;
+      scheme = moved.keeps.same.scheme ∙ belongs.scheme;
+      agrees = agrees_after;
+    }
+
+  pub has_put_all : (held : List (List Letter)) (new : Told) (put : ℕ) (full : Option ℕ) (ranks : ℕ) → ranks ≡ me.layout.ranks →
+      HasPutEach me.here ranks me.held held old new put full → HasPutAll me (record me { held = held }) old new put full
+  has_put_all held new put full ranks is p = record {
+    placed = p.placed;
+    out = put_out held new p.placed p.moved;
+    count = p.count;
+    none_or_full = λ to within. p.none_or_full to (omega (arith, within, is));
+    first_full = subst (λ n. FirstFull n held old new full) is p.first_full;
+  }
+
+  pub put_all_failed : (held : List (List Letter)) (new : Told) (fault : CommFault) → PutsFailed me.here me.held held old new fault → PutAllFailed me (record me { held = held }) old new fault
+  put_all_failed held new fault f = record { placed = f.placed; out = put_out held new f.placed f.moved; no_memory = f.no_memory }
+
+-- letters moved, whatever ended the puts
+pub moved_each : (here ranks : ℕ) (before after : List (List Letter)) (old new : Told) (r : Result (ℕ × Option ℕ) CommFault) →
+    IfOk r (λ what. HasPutEach here ranks before after old new what.0 what.1) → IfErr r (PutsFailed here before after old new) → (placed : List Entry) × Moved here before after old new placed
+moved_each here ranks before after old now (Ok what) put failed = (put.placed, put.moved)
+moved_each here ranks before after old now (Err fault) put failed = (failed.placed, failed.moved)
+
+-- a rank that belongs to a post has the log that the post shows
+local_is : {C : Type 0} (apply : Applies C) (start : C → C) (me : Rank C) (post : Told) → Belongs apply start me post → local_at post me.here ≡ local_of me (post.log me.here)
+local_is apply start me post belongs = (let a = belongs.layout in let b = belongs.scheme in cc)
+
+pub honest_moved : {C : Type 0} (apply : Applies C) (start : C → C) (me : Rank C) (here : ℕ) (old new : Told) → here ≡ me.here → Belongs apply start me old → SamePost here old new →
+    (IsHonest (local_at old here) → IsHonest (local_at new here)) → IsHonest (local_of me (old.log me.here)) → IsHonest (local_of me (new.log me.here))
+honest_moved {C} apply start me here old new is belongs same keeps h =
+    let P : ℕ → Type 0 = λ r. IsHonest (local_at old r) → IsHonest (local_at new r) in
+    let now : local_at new me.here ≡ local_of me (new.log me.here) = (let a = same.layout in let b = same.scheme in let c = belongs.layout in let d = belongs.scheme in cc) in
+    subst IsHonest now (subst P is keeps (subst IsHonest (sym (local_is apply start me old belongs)) h))

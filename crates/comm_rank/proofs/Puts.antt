@@ -1,7 +1,6 @@
 -- A put of an own letter that goes straight to its destination.
-use Rattle.std.proofs.Common.{◌≡◌, ◌≢◌, ℕ, ◌+◌, ◌<◌, ◌^◌, Bool, true, false, not, ◌||◌, ◌&&◌, nat_eq, lt-ltb, eq-eqb, ◌==◌, None, Result, Ok, Err, List, [], ◌∷◌, ◌++◌, length, set, refl, sym, ap, ◌∙◌, subst, append-nil, append_assoc, arith, length-append, inl, inr}
+use Rattle.std.proofs.Common.{◌≡◌, ◌≢◌, ℕ, ◌+◌, ◌<◌, ◌^◌, Bool, true, false, not, ◌||◌, ◌&&◌, nat_eq, lt-ltb, eq-eqb, ◌==◌, None, Err, List, [], ◌∷◌, ◌++◌, length, set, refl, sym, ap, ◌∙◌, subst, append-nil, append_assoc, arith, length-append, inl, inr}
 use Rattle.std.specs.Bool.{IsTrue}
-use Rattle.std.specs.Result.{IfOk, IsErr}
 use Rattle.std.proofs.lemmas.Bool.{cases_eq}
 use Rattle.std.proofs.lemmas.List.{set-set, set-get_or}
 use Rattle.msg_codec.specs.declared.letter.Letter.{Letter}
@@ -14,16 +13,22 @@ use Rattle.world_core.specs.declared.entry.Entry.TheVariants.{Put}
 use Rattle.world_core.specs.Local.{Local, having_put}
 use Rattle.world_core.specs.Log.{letters_of}
 use Rattle.world_core.specs.Pairs.{is_data, is_of_pair, of_pair, of_sender, own, pair_put, sent}
-use Rattle.world_core.specs.Post.{Told, SameFulls, SamePost, SameStops, SameMisses, local_at}
+use Rattle.world_core.specs.Post.{CountsNeverFall, FullsRise, IfFull, IfNoMemory, PutKeeps, SameFulls, SamePost, Told, local_at}
+use Rattle.world_core.specs.declared.post.PutBack.{PutBack}
+use Rattle.world_core.specs.declared.post.PutBack.TheVariants.{Full, NoMemory}
+use Rattle.world_core.specs.Rising.{Rose}
 use Rattle.world_core.specs.Rules.{first_broken, bad_tag, wrong_hop, not_held, too_many_sent, IsHonest}
 use Rattle.world_core.specs.Rules.Deed.{Puts}
 use Rattle.world_core.proofs.Alone.{honest_more}
 use Rattle.world_core.proofs.Batch.{pair_put-put, own-put}
 use Rattle.world_core.proofs.Lists.{all_append}
+use Rattle.comm_rank.proofs.Same.{same_then}
+use Rattle.world_core.proofs.Posts.NeverFall.{never_fall_refl, never_fall_trans}
 use Rattle.world_core.proofs.Tried.{table, hop_right, held_own, not_too_many}
-use Rattle.comm_rank.specs.Held.{IsHeldFor, Loses, OthersStand, held_for}
-use Rattle.comm_rank.specs.Puts.{MayPut, Moved, PostStands, PutsOne, put_count}
-use Rattle.comm_rank.specs.Turns.{IsPut}
+use Rattle.comm_rank.specs.Held.{NoneClosed, held_for}
+use Rattle.comm_rank.specs.Moves.{MayPut, Moved, MoveKeeps, PutsOne, put_count}
+use Rattle.comm_rank.specs.Store.{IsHeldFor, Loses, OthersUnchanged}
+use Rattle.comm_rank.specs.Turns.{IsPut, MetFull}
 
 -- ---- it breaks no rule
 
@@ -89,8 +94,8 @@ may_put_one here to n before after told batch may within all one loses =
 
 -- ---- what moves
 
-pub post_stands : (here : ℕ) (old new : Told) → SamePost here old new → SameStops old new → SameMisses old new → new.halts ≡ old.halts → PostStands here old new
-post_stands here old new same stops misses halts = record { same = same; stops = stops; misses = misses; halts = halts }
+pub move_keeps : (here : ℕ) (old new : Told) → PutKeeps here old new → CountsNeverFall old new → MoveKeeps here old new
+move_keeps here old new keeps counts = record { same = keeps.same; stops = keeps.stops; misses = keeps.misses; halts = keeps.halts; counts = counts }
 
 same_put : (a b : ℕ) (x y : List Letter) → (let e : Entry = Put a x in e) ≡ Put b y → (b ≡ a) × (y ≡ x)
 same_put a b x y h = (cc, cc)
@@ -107,41 +112,41 @@ honest_put here to batch old new same log ok honest =
     subst IsHonest (sym now) more
 
 pub moved_one : (here to : ℕ) (batch : List Letter) (before after : List (List Letter)) (old new : Told) → first_broken (local_at old here) (Puts to batch) ≡ None →
-    Loses before after batch → length after ≡ length before → new.log here ≡ old.log here ++ Put to batch ∷ [] → PostStands here old new →
+    Loses before after batch → length after ≡ length before → new.log here ≡ old.log here ++ Put to batch ∷ [] → MoveKeeps here old new →
     Moved here before after old new (Put to batch ∷ [])
-moved_one here to batch before after old new ok loses all log post =
+moved_one here to batch before after old new ok loses all log keeps =
     let test : Letter → Bool = λ l. is_data l && (l.from == here) in
     record {
       log = log;
       puts = (tt, tt);
-      honest = honest_put here to batch old new post.same log ok;
-      sent_stands = λ d.
+      honest = honest_put here to batch old new keeps.same log ok;
+      sent_unchanged = λ d.
           ap (λ xs. pair_put here d xs ++ of_pair here d (letters_of after)) log
           ∙ ap (λ xs. xs ++ of_pair here d (letters_of after)) (pair_put-put here d (old.log here) to batch)
           ∙ append_assoc (pair_put here d (old.log here)) (of_pair here d batch) (of_pair here d (letters_of after))
           ∙ ap (λ xs. pair_put here d (old.log here) ++ xs) (sym (loses.pairs here d));
-      count_stands =
+      count_unchanged =
           omega (arith, ap (λ xs. length (own here xs)) log, ap length (own-put here (old.log here) to batch), length-append (own here (old.log here)) (of_sender here batch), loses.senders here);
       none_more = λ f t none. rest_none (of_pair f t batch) (of_pair f t (letters_of after)) (sym (loses.pairs f t) ∙ none);
       all = all;
-      post = post;
+      keeps = keeps;
     }
   where
     rest_none : (xs ys : List Letter) → xs ++ ys ≡ [] → ys ≡ []
     rest_none [] ys h = h
     rest_none (x ∷ xs) ys h = absurd cc
 
-pub moved_none : (here : ℕ) (before after : List (List Letter)) (old new : Told) → after ≡ before → new.log here ≡ old.log here → PostStands here old new →
+pub moved_none : (here : ℕ) (before after : List (List Letter)) (old new : Told) → after ≡ before → new.log here ≡ old.log here → MoveKeeps here old new →
     Moved here before after old new []
-moved_none here before after old new held log post = record {
+moved_none here before after old new held log keeps = record {
   log = log ∙ sym (append-nil _);
   puts = tt;
-  honest = (let now : local_at new here ≡ local_at old here = (let a = post.same.layout in let b = post.same.scheme in cc) in subst IsHonest (sym now));
-  sent_stands = λ d. ap (λ xs. sent here d xs (letters_of after)) log ∙ ap (λ xs. sent here d (old.log here) (letters_of xs)) held;
-  count_stands = omega (arith, ap (λ xs. length (own here xs)) log, ap (λ xs. length (of_sender here (letters_of xs))) held);
+  honest = (let now : local_at new here ≡ local_at old here = (let a = keeps.same.layout in let b = keeps.same.scheme in cc) in subst IsHonest (sym now));
+  sent_unchanged = λ d. ap (λ xs. sent here d xs (letters_of after)) log ∙ ap (λ xs. sent here d (old.log here) (letters_of xs)) held;
+  count_unchanged = omega (arith, ap (λ xs. length (own here xs)) log, ap (λ xs. length (of_sender here (letters_of xs))) held);
   none_more = λ f t none. ap (λ xs. of_pair f t (letters_of xs)) held ∙ none;
   all = ap length held;
-  post = post;
+  keeps = keeps;
 }
 
 -- the letter that left is held again
@@ -153,22 +158,13 @@ given_back to old mid now rest batch back left first same again =
 
 -- ---- one after another
 
-pub same_then : (here : ℕ) (a b c : Told) → SamePost here a b → SamePost here b c → SamePost here a c
-same_then here a b c first later = record {
-  layout = later.layout ∙ first.layout;
-  scheme = later.scheme ∙ first.scheme;
-  ring = later.ring ∙ first.ring;
-  batches = later.batches ∙ first.batches;
-  serves = λ rank. later.serves rank ∙ first.serves rank;
-  other_logs = λ rank other. later.other_logs rank other ∙ first.other_logs rank other;
-}
-
-pub stands_then : (here : ℕ) (a b c : Told) → PostStands here a b → PostStands here b c → PostStands here a c
-stands_then here a b c first later = record {
-  same = same_then here a b c first.same later.same;
+pub keeps_then : (here : ℕ) (a b c : Told) → MoveKeeps here a b → MoveKeeps here b c → MoveKeeps here a c
+keeps_then here a b c first later = record {
+  same = same_then here here a b c refl first.same later.same;
   stops = λ rank. later.stops rank ∙ first.stops rank;
   misses = λ rank. later.misses rank ∙ first.misses rank;
   halts = later.halts ∙ first.halts;
+  counts = never_fall_trans a b c first.counts later.counts;
 }
 
 pub moved_then : (here : ℕ) (a b c : List (List Letter)) (t u v : Told) (first later : List Entry) → Moved here a b t u first → Moved here b c u v later → Moved here a c t v (first ++ later)
@@ -176,19 +172,20 @@ moved_then here a b c t u v first later m n = record {
   log = n.log ∙ ap (λ xs. xs ++ later) m.log ∙ append_assoc (t.log here) first later;
   puts = all_append IsPut first later m.puts n.puts;
   honest = λ h. n.honest (m.honest h);
-  sent_stands = λ d. n.sent_stands d ∙ m.sent_stands d;
-  count_stands = n.count_stands ∙ m.count_stands;
+  sent_unchanged = λ d. n.sent_unchanged d ∙ m.sent_unchanged d;
+  count_unchanged = n.count_unchanged ∙ m.count_unchanged;
   none_more = λ f d h. n.none_more f d (m.none_more f d h);
   all = n.all ∙ m.all;
-  post = stands_then here t u v m.post n.post;
+  keeps = keeps_then here t u v m.keeps n.keeps;
 }
 
-pub same_post : (here : ℕ) (t : Told) → PostStands here t t
-same_post here t = record {
+pub keeps_none : (here : ℕ) (t : Told) → MoveKeeps here t t
+keeps_none here t = record {
   same = record { layout = refl; scheme = refl; ring = refl; batches = refl; serves = λ rank. refl; other_logs = λ rank other. refl };
   stops = λ rank. refl;
   misses = λ rank. refl;
   halts = refl;
+  counts = never_fall_refl t;
 }
 
 pub count_of_none : (b : Bool) → b ≡ false → put_count b ≡ 0
@@ -204,9 +201,38 @@ pub puts_one : (b : Bool) (here to : ℕ) (before after : List (List Letter)) (o
 puts_one true here to before after old new h k = k
 puts_one false here to before after old new h k = absurd cc
 
-pub no_ok : {X E : Type 0} (r : Result X E) (P : X → Type 0) → IsErr r → IfOk r P
-no_ok (Ok x) P h = absurd cc
-no_ok (Err e) P h = tt
+pub others_then : (to : ℕ) (a b c : List (List Letter)) → OthersUnchanged to a b → OthersUnchanged to b c → OthersUnchanged to a c
+others_then to a b c first later = record { all = later.all ∙ first.all; others = λ other differs. later.others other differs ∙ first.others other differs }
 
-pub others_then : (to : ℕ) (a b c : List (List Letter)) → OthersStand to a b → OthersStand to b c → OthersStand to a c
-others_then to a b c first later = (later.0 ∙ first.0, λ other differs. later.1 other differs ∙ first.1 other differs)
+-- ---- a put that was refused
+
+pub found_full : {P : Type 0} (back : PutBack) (batch : List Letter) → back ≡ Full batch → IfFull (Err back) P → P
+found_full {P} back batch is h = let Q : PutBack → Type 0 = λ b. IfFull (Err b) P in subst Q is h
+
+pub had_no_memory : {P : Type 0} (back : PutBack) (batch : List Letter) → back ≡ NoMemory batch → IfNoMemory (Err back) P → P
+had_no_memory {P} back batch is h = let Q : PutBack → Type 0 = λ b. IfNoMemory (Err b) P in subst Q is h
+
+pub none_remains : (xs : List Letter) → length xs ≡ 0 → xs ≡ []
+none_remains [] e = refl
+none_remains (x ∷ xs) e = absurd (omega (arith, e))
+
+-- no link was found full before this one
+pub found_full_at_last : (b : Bool) (here to : ℕ) (before after : List (List Letter)) (old mid new : Told) → b ≡ false → ((rank : ℕ) → mid.serves rank ≡ old.serves rank) → SameFulls old mid →
+    PutsOne b here to before after mid new → MetFull here to after old new × FullsRise to old new
+found_full_at_last true here to before after old mid new is serves fulls one = absurd cc
+found_full_at_last false here to before after old mid new is serves fulls one = (
+  record {
+    rose = subst (λ n. Rose n (new.fulls to)) (fulls to) one.0.rose;
+    some = one.0.some;
+    full = λ served. one.0.full (serves to ∙ served);
+  },
+  record {
+    rose = subst (λ n. Rose n (new.fulls to)) (fulls to) one.1.rose;
+    never_falls = omega (arith, one.1.never_falls, fulls to);
+    others = λ rank ne. one.1.others rank ne ∙ fulls rank;
+  },
+)
+
+-- where a link is full, a letter for it is held
+pub some_held : (to : ℕ) (before after : List (List Letter)) → after ≡ before → 0 < length (held_for before to) → NoneClosed after to → ⊥
+some_held to before after same some none = absurd (omega (arith, some, ap (λ ls. length (held_for ls to)) same, ap length none))

@@ -4,7 +4,8 @@ use Rattle.std.specs.Option.{IfSome, MatchOption}
 use Rattle.std.specs.List.{AllByRecursion}
 use Rattle.std.proofs.lemmas.List.{map-set, set-get_or, get_or-map, get_or-set_same, length-map}
 use Rattle.msg_codec.specs.declared.letter.Letter.{Letter}
-use Rattle.comm_rank.specs.Held.{AreHeld, IsHeldFor, Loses, held_for}
+use Rattle.comm_rank.specs.Held.{held_for}
+use Rattle.comm_rank.specs.Store.{AreHeld, IsHeldFor, Loses}
 use Rattle.comm_rank.proofs.Holding.{loses}
 use Rattle.comm_rank.proofs.Singles.{first_and_rest}
 
@@ -91,3 +92,7 @@ either (Err e) P A B f g a b = g b
 pub either_of : {X E : Type 0} (r : Result X E) (P A B : Type 0) {A' B' : Type 0} → (A → A' → P) → (B → B' → P) → OnOk r A → OnOk r A' → OnErr r B → OnErr r B' → P
 either_of (Ok x) P A B f g a a' b b' = f a a'
 either_of (Err e) P A B f g a a' b b' = g b b'
+
+pub ok_both : {X E : Type 0} (r : Result X E) {A B P : Type 0} → (A → B → P) → OnOk r A → OnOk r B → OnOk r P
+ok_both (Ok x) f a b = f a b
+ok_both (Err e) f a b = tt

@@ -15,7 +15,7 @@ use Rattle.world_core.proofs.Lists.{and_first, and_second}
 use Rattle.comm_rank.specs.Agrees.{Agrees, IsSublist}
 use Rattle.comm_rank.specs.Fold.{Applies}
 use Rattle.comm_rank.specs.Held.{Gains}
-use Rattle.comm_rank.specs.Rank.{Rank, fresh_rank, held_letters, sent_to}
+use Rattle.comm_rank.specs.Rank.{HasSent, Rank, fresh_rank, held_letters, sent_to}
 use Rattle.comm_rank.proofs.Direct.{nothing_to_forward}
 
 pub sublist_longer : {X : Type 0} (part whole more : List X) → IsSublist part whole → IsSublist part (whole ++ more)
@@ -30,7 +30,7 @@ not_of_pair from to here l mine other = false_from_ne_true (is_of_pair from to l
 
 module _ {C : Type 0} (apply : Applies C) (start : C → C) (me : Rank C) (log : List Entry) (agrees : Agrees apply start me log) (held : List (List Letter)) (count : ℕ) where
   -- one letter more of its own is held and counted
-  pub agrees_sent : (l : Letter) → l.from ≡ me.here → IsTrue (is_data l) → Gains me.held held (l ∷ []) → count ≡ me.sent_count + 1 →
+  pub agrees_sent : (l : Letter) → l.from ≡ me.here → IsTrue (is_data l) → Gains (held_letters me) (letters_of held) (l ∷ []) → count ≡ me.sent_count + 1 →
       Agrees apply start (record me { sent_count = count; held = held }) log
   agrees_sent l mine tagged gains counted =
       let one : length (of_sender me.here (l ∷ [])) ≡ 1 = (let e : nat_eq l.from me.here ≡ true = eq-eqb _ _ mine in rw (tagged, e) refl) in
@@ -54,12 +54,31 @@ module _ {C : Type 0} (apply : Applies C) (start : C → C) (me : Rank C) (log :
       let P : ℕ → List (List Letter) → Type 0 = λ n ls. Agrees apply start (record me { sent_count = n; held = ls }) log in
       subst (λ n. P n held) (sym counted) (subst (λ ls. P me.sent_count ls) (sym same) agrees)
 
--- what is held for a rank that the letter isn't for stands
-pub others_stand : (from to : ℕ) (before after : List (List Letter)) (l : Letter) → to ≢ l.to → Gains before after (l ∷ []) → of_pair from to (letters_of after) ≡ of_pair from to (letters_of before)
-others_stand from to before after l other gains =
-    let no : is_of_pair from to l ≡ false = false_from_ne_true (is_of_pair from to l) (λ yes. other (sym (eqb-true l.to to (and_second (is_data l && nat_eq l.from from) (nat_eq l.to to) yes)))) in
-    let none : of_pair from to (l ∷ []) ≡ [] = rw no refl in
-    gains.pairs from to ∙ ap (λ xs. of_pair from to (letters_of before) ++ xs) none ∙ append-nil _
+-- ---- what a send is to the rank
+
+pub has_sent : {C : Type 0} (me : Rank C) (held : List (List Letter)) (count : ℕ) (l : Letter) → Gains (held_letters me) (letters_of held) (l ∷ []) → count ≡ me.sent_count + 1 →
+    HasSent me (record me { sent_count = count; held = held }) l
+has_sent {C} me held count l gains counted = record {
+  held = gains;
+  sent = λ log to.
+      ap (λ xs. pair_put me.here to log ++ xs) (gains.pairs me.here to) ∙ sym (append_assoc (pair_put me.here to log) (of_pair me.here to (held_letters me)) (of_pair me.here to (l ∷ [])));
+  rank = ap (λ n. record me { sent_count = n; held = held }) counted;
+}
+
+-- the letter is the last to its destination
+pub sent_there : {C : Type 0} (old new : Rank C) (l : Letter) (log : List Entry) → IsTrue (is_data l) → l.from ≡ old.here → HasSent old new l → sent_to new log l.to ≡ sent_to old log l.to ++ l ∷ []
+sent_there old new l log tagged mine sent =
+    let from : nat_eq l.from old.here ≡ true = eq-eqb l.from old.here mine in
+    let to : nat_eq l.to l.to ≡ true = eq-eqb l.to l.to refl in
+    let one : of_pair old.here l.to (l ∷ []) ≡ l ∷ [] = rw (tagged, from, to) refl in
+    sent.sent log l.to ∙ ap (λ xs. sent_to old log l.to ++ xs) one
+
+-- what was sent to other ranks is unchanged
+pub sent_elsewhere : {C : Type 0} (old new : Rank C) (l : Letter) (log : List Entry) (to : ℕ) → to ≢ l.to → HasSent old new l → sent_to new log to ≡ sent_to old log to
+sent_elsewhere old new l log to other sent =
+    let no : is_of_pair old.here to l ≡ false = false_from_ne_true (is_of_pair old.here to l) (λ yes. other (sym (eqb-true l.to to (and_second (is_data l && nat_eq l.from old.here) (nat_eq l.to to) yes)))) in
+    let none : of_pair old.here to (l ∷ []) ≡ [] = rw no refl in
+    sent.sent log to ∙ ap (λ xs. sent_to old log to ++ xs) none ∙ append-nil _
 
 -- ---- the start
 

@@ -14,19 +14,20 @@ use Rattle.world_core.specs.Local.{Local, to_forward}
 use Rattle.world_core.specs.Log.{batches_put, batches_taken, letters_taken}
 use Rattle.world_core.specs.Modest.{IsModest}
 use Rattle.world_core.specs.Pairs.{arrived, for_rank, is_of_pair, of_pair, of_sender, own, pair_put}
-use Rattle.world_core.specs.Post.{MissesRise, SamePost, Told, link_in, local_at}
+use Rattle.world_core.specs.Post.{MissesRise, SamePost, Told, TookBatch, link_in, local_at}
 use Rattle.world_core.specs.Rules.{IsHonest}
 use Rattle.world_core.proofs.Alone.{honest_more}
 use Rattle.world_core.proofs.Batch.{pair_put-took}
 use Rattle.world_core.proofs.Entries.{batches_put-took, batches_taken-took}
-use Rattle.comm_rank.specs.Agrees.{Agrees, IsSublist}
+use Rattle.comm_rank.specs.Agrees.{Agrees, Belongs, IsSublist}
 use Rattle.comm_rank.specs.Fold.{Applies, fold_from, handed_from}
 use Rattle.comm_rank.specs.Held.{Gains}
 use Rattle.comm_rank.specs.Rank.{Rank, IsSameRank, handed, held_letters, local_of, ran_at, sent_to}
-use Rattle.comm_rank.specs.Running.{CutFrom, FullAmong, HasRunAll, IsFor, IsStuck, NotLookedAt, RanSome, TookFrom}
-use Rattle.comm_rank.specs.Turns.{Advanced, FullAtFirst, IsFullBehind, LookedAt}
+use Rattle.comm_rank.specs.declared.fault.CommFault.{CommFault}
+use Rattle.comm_rank.specs.Running.{CutFrom, HasRunAll, IsFor, NotLookedAt, StuckIn, TookFrom, WasCutFrom}
+use Rattle.comm_rank.specs.Turns.{Advanced, LookedAt}
 use Rattle.comm_rank.proofs.Arriving.{arrived-took, batch_for, for_all, forward_same, none_of_others, own-took, own_all, ran_all, ran_is, sublist_more}
-use Rattle.comm_rank.proofs.Folds.{fold-append, handed-append, rest_for}
+use Rattle.comm_rank.proofs.Folds.{fold-append, handed-append, if_full, rest_for}
 
 -- ---- the batch waits
 
@@ -36,31 +37,19 @@ ran_waiting {C} apply was old new waiting batch e f h =
     let there : HasRunAll apply was new waiting = record { contents = h.contents; held = h.held; lawful = h.lawful; run_count = h.run_count; sent_count = h.sent_count } in
     subst (λ (me : Rank C). HasRunAll apply me new batch) e (subst (HasRunAll apply was new) f there)
 
--- the first of the letters of a batch ran, and the others wait
-pub record StuckIn {C : Type 0} (apply : Applies C) (old new : Rank C) (batch : List Letter) : Type 0 where
-  pub run : List Letter
-  pub given : List Letter
-  pub waits : batch ≡ run ++ new.waiting
-  pub stuck : IsStuck apply old new run given
-
 pub stuck_waiting : {C : Type 0} (apply : Applies C) (was old new : Rank C) (waiting batch : List Letter) → was ≡ old → waiting ≡ batch →
-    RanSome apply (record was { waiting = waiting }) new → StuckIn apply old new batch
-stuck_waiting {C} apply was old new waiting batch e f h =
+    (fault : CommFault) → StuckIn apply (record was { waiting = waiting }) new waiting fault → StuckIn apply old new batch fault
+stuck_waiting {C} apply was old new waiting batch e f fault h =
     let s = h.stuck in
-    let there : StuckIn apply was new waiting = record { run = h.run; given = h.given; waits = h.waits; stuck = record { begun = s.begun; held = s.held; lawful = s.lawful; run_count = s.run_count; sent_count = s.sent_count } } in
-    subst (λ (me : Rank C). StuckIn apply me new batch) e (subst (StuckIn apply was new) f there)
-
--- the first of the letters of a batch ran, and a full count came at the one behind
-pub record FullIn {C : Type 0} (apply : Applies C) (old new : Rank C) (batch : List Letter) : Type 0 where
-  pub run : List Letter
-  pub waits : batch ≡ run ++ new.waiting
-  pub behind : IsFullBehind apply old new run
-
-pub full_waiting : {C : Type 0} (apply : Applies C) (was old new : Rank C) (waiting batch : List Letter) → was ≡ old → waiting ≡ batch →
-    FullAmong apply (record was { waiting = waiting }) new → FullIn apply old new batch
-full_waiting {C} apply was old new waiting batch e f h =
-    let there : FullIn apply was new waiting = record { run = h.run; waits = h.waits; behind = record { next = h.behind.next; waits = h.behind.waits; too_many = h.behind.too_many } } in
-    subst (λ (me : Rank C). FullIn apply me new batch) e (subst (FullIn apply was new) f there)
+    let there : StuckIn apply was new waiting fault = record {
+      run = h.run;
+      given = h.given;
+      waits = h.waits;
+      stuck = record { begun = s.begun; held = s.held; lawful = s.lawful; run_count = s.run_count; sent_count = s.sent_count };
+      full_at_first = if_full fault (λ _ b. record { next = b.next; waits = b.waits; too_many = b.too_many }) h.full_at_first;
+      cause = record { count_full = h.cause.count_full; gave = h.cause.gave; never_stopped = h.cause.never_stopped };
+    } in
+    subst (λ (me : Rank C). StuckIn apply me new batch fault) e (subst (λ b. StuckIn apply was new b fault) f there)
 
 -- ---- at a rank's place
 
@@ -106,7 +95,7 @@ module _ {C : Type 0} (apply : Applies C) (old new : Rank C) (log after : List E
   pub arrived_there : arrived new.here after ≡ arrived old.here log ++ batch
   arrived_there = ap (λ h. arrived h after) same.here ∙ arrived_now
 
-  sent_more : (given : List Letter) → Gains old.held new.held given → (to : ℕ) → sent_to new after to ≡ sent_to old log to ++ of_pair old.here to given
+  sent_more : (given : List Letter) → Gains (held_letters old) (held_letters new) given → (to : ℕ) → sent_to new after to ≡ sent_to old log to ++ of_pair old.here to given
   sent_more given gains to =
       ap (λ h. pair_put h to after ++ of_pair h to (held_letters new)) same.here
       ∙ ap (λ xs. xs ++ of_pair old.here to (held_letters new)) (ap (pair_put old.here to) gained ∙ pair_put-took old.here to log from batch)
@@ -147,11 +136,8 @@ module _ {C : Type 0} (apply : Applies C) (old new : Rank C) (log after : List E
       (arrived_there ∙ ap (λ xs. xs ++ batch) (ran_old before) ∙ ap (λ xs. ran_at old log ++ xs) waits ∙ sym (append_assoc (ran_at old log) run new.waiting))
       (for_all new.here new.waiting (rest_for new.here old.here batch run new.waiting waits same.here all))
 
-  pub full_from : old.waiting ≡ [] → FullIn apply old new batch → FullAtFirst apply old new log after
-  full_from before full = record { run = full.run; ran = ran_some before full.run full.waits; behind = full.behind }
-
-  pub cut_from : old.waiting ≡ [] → StuckIn apply old new batch → CutFrom from apply old new log after
-  cut_from before stuck =
+  cut_at : old.waiting ≡ [] → (fault : CommFault) → StuckIn apply old new batch fault → CutFrom from apply old new log after
+  cut_at before fault stuck =
       let rest : AllByRecursion (IsFor new.here) new.waiting = rest_for new.here old.here batch stuck.run new.waiting stuck.waits same.here all in
       let rest_there : for_rank old.here new.waiting ≡ new.waiting = for_all old.here new.waiting (subst (λ h. AllByRecursion (IsFor h) new.waiting) same.here rest) in
       record {
@@ -172,6 +158,13 @@ module _ {C : Type 0} (apply : Applies C) (old new : Rank C) (log after : List E
         alone = (refl, tt);
         one = omega arith;
       }
+
+  pub cut_from : old.waiting ≡ [] → (fault : CommFault) → StuckIn apply old new batch fault → WasCutFrom from apply old new log after fault
+  cut_from before fault stuck = record {
+    cut_from = cut_at before fault stuck;
+    full_at_first = if_full fault (λ _ behind. record { run = stuck.run; ran = ran_some before stuck.run stuck.waits; behind = behind }) stuck.full_at_first;
+    cause = stuck.cause;
+  }
 
   module _ (start : C → C) (keeps : (c : C) (here ranks : ℕ) (l : Letter) → start (apply c here ranks l).0 ≡ start c) (agrees : Agrees apply start old log) where
     pub agrees_now : new.waiting ≡ [] → HasRunAll apply old new batch → IsModest (local_of old after) → Agrees apply start new after
@@ -240,33 +233,33 @@ pub record Arrival {C : Type 0} (old : Rank C) (before told : Told) (from : ℕ)
   pub modest : IsModest (local_of old (told.log old.here))
   pub all : AllByRecursion (IsFor old.here) batch
 
-pub arrival : {C : Type 0} (was old : Rank C) (before told : Told) (from : ℕ) (batch : List Letter) → was ≡ old → told.layout ≡ before.layout → told.scheme ≡ before.scheme →
-    before.layout ≡ old.layout → before.scheme ≡ old.scheme → was.scheme ≡ Direct → from < old.layout.ranks →
-    told.log was.here ≡ before.log was.here ++ Took from batch ∷ [] → IsModest (local_at told was.here) → Arrival old before told from batch
-arrival {C} was old before told from batch e layout scheme old_layout old_scheme direct sender log modest =
-    let here : was.here ≡ old.here = ap (λ (me : Rank C). me.here) e in
+pub arrival : {C : Type 0} (apply : Applies C) (start : C → C) (old : Rank C) (there : ℕ) (before told : Told) (from : ℕ) (batch : List Letter) → there ≡ old.here → SamePost there before told →
+    Belongs apply start old before → old.scheme ≡ Direct → from < old.layout.ranks → TookBatch there from batch before told → Arrival old before told from batch
+arrival {C} apply start old there before told from batch here same belongs direct sender took =
     let P : ℕ → Type 0 = λ h. told.log h ≡ before.log h ++ Took from batch ∷ [] in
     let M : ℕ → Type 0 = λ h. IsModest (local_at told h) in
-    let gained : P old.here = subst P here log in
-    let at_old : IsModest (local_of old (told.log old.here)) = modest_at told old before.layout before.scheme layout scheme old_layout old_scheme (subst M here modest) in
+    let gained : P old.here = subst P here took.log in
+    let at_old : IsModest (local_of old (told.log old.here)) = modest_at told old before.layout before.scheme same.layout same.scheme belongs.layout belongs.scheme (subst M here took.modest) in
     let N : List Entry → Type 0 = λ xs. IsModest (local_of old xs) in
     record {
       gained = gained;
       modest = at_old;
-      all = batch_for (local_of old (before.log old.here)) from batch (omega (arith, sender)) (ap (λ (me : Rank C). me.scheme) (sym e) ∙ direct) (subst N gained at_old);
+      all = batch_for (local_of old (before.log old.here)) from batch (omega (arith, sender)) direct (subst N gained at_old);
     }
 
-pub few_run : {C : Type 0} (apply : Applies C) (start : C → C) (was old : Rank C) (before told : Told) (from : ℕ) (batch waiting : List Letter) → was ≡ old → waiting ≡ batch → Arrival old before told from batch →
-    Agrees apply start old (before.log old.here) → was.run_count + length waiting ≤ 2 ^ 62
-few_run {C} apply start was old before told from batch waiting e f a agrees =
+pub few_run : {C : Type 0} (apply : Applies C) (start : C → C) (old : Rank C) (before told : Told) (from : ℕ) (batch : List Letter) → Arrival old before told from batch →
+    Agrees apply start old (before.log old.here) → old.run_count + length batch ≤ 2 ^ 62
+few_run apply start old before told from batch a agrees =
     let there : arrived old.here (told.log old.here) ≡ arrived old.here (before.log old.here) ++ batch =
     ap (arrived old.here) a.gained ∙ arrived-took old.here (before.log old.here) from batch ∙ ap (λ xs. arrived old.here (before.log old.here) ++ xs) (for_all old.here batch a.all) in
-    let count : was.run_count ≡ old.run_count = ap (λ (me : Rank C). me.run_count) e in
-    omega (arith, count, ap length f, agrees.run_count, ap length (ran_all old (before.log old.here) agrees.nothing_waits), ap length there, length-append (arrived old.here (before.log old.here)) batch, a.modest.few)
+    omega (arith, agrees.run_count, ap length (ran_all old (before.log old.here) agrees.nothing_waits), ap length there, length-append (arrived old.here (before.log old.here)) batch, a.modest.few)
 
 pub waiting_for : {C : Type 0} (was old : Rank C) (batch waiting : List Letter) → was ≡ old → waiting ≡ batch → AllByRecursion (IsFor old.here) batch → AllByRecursion (IsFor was.here) waiting
 waiting_for {C} was old batch waiting e f all =
     subst (λ h. AllByRecursion (IsFor h) waiting) (sym (ap (λ (me : Rank C). me.here) e)) (subst (AllByRecursion (IsFor old.here)) (sym f) all)
+
+pub few_waiting : {C : Type 0} (was old : Rank C) (batch waiting : List Letter) → was ≡ old → waiting ≡ batch → old.run_count + length batch ≤ 2 ^ 62 → was.run_count + length waiting ≤ 2 ^ 62
+few_waiting {C} was old batch waiting e f few = omega (arith, ap (λ (me : Rank C). me.run_count) e, ap length f, few)
 
 pub same_from : {C : Type 0} (was old new : Rank C) (waiting : List Letter) → was ≡ old → IsSameRank (record was { waiting = waiting }) new → IsSameRank old new
 same_from {C} was old new waiting e same =

@@ -1,5 +1,5 @@
 -- Takes and then puts: a turn.
-use Rattle.std.proofs.Common.{◌≡◌, ℕ, Option, Some, None, List, [], ◌∷◌, ◌++◌, refl, sym, ap, ◌∙◌, subst, inl, inr, length, arith, append-nil}
+use Rattle.std.proofs.Common.{◌≡◌, ℕ, ◌-◌, ◌^◌, min, Option, Some, None, List, [], ◌∷◌, ◌++◌, refl, sym, ap, ◌∙◌, subst, inl, inr, length, arith, append-nil}
 use Rattle.std.specs.Bool.{IsTrue}
 use Rattle.std.specs.List.{AllByRecursion}
 use Rattle.std.proofs.lemmas.List.Elements.{filter_map-append}
@@ -8,14 +8,18 @@ use Rattle.world_core.specs.declared.entry.Entry.{Entry}
 use Rattle.world_core.specs.declared.entry.Entry.TheVariants.{Put, Took}
 use Rattle.world_core.specs.Log.{batches_taken, letters_taken, took_from}
 use Rattle.world_core.specs.Pairs.{for_rank, of_pair}
-use Rattle.world_core.specs.Post.{Told, is_full_in}
+use Rattle.world_core.specs.Post.{SameFulls, SameMisses, Told, is_full_in}
 use Rattle.world_core.specs.Rising.{Rose}
-use Rattle.comm_rank.specs.Fault.{halted}
+use Rattle.comm_rank.specs.declared.fault.CommFault.{CommFault}
+use Rattle.comm_rank.specs.declared.fault.CommFault.TheVariants.{Stopped, CountFull, NoMemory}
+use Rattle.comm_rank.specs.Fault.{UnlessStopped}
 use Rattle.comm_rank.specs.Fold.{Applies}
-use Rattle.comm_rank.specs.Puts.{NoneOrFull, PostStands, PutOut}
-use Rattle.comm_rank.specs.Rank.{Rank, handed, sent_to}
-use Rattle.comm_rank.specs.Running.{PostTook, TookAll}
-use Rattle.comm_rank.specs.Turns.{CutOff, FirstFull, FullAtFirst, IsPut, LookedAt}
+use Rattle.comm_rank.specs.declared.turn.Turn.{Turn}
+use Rattle.comm_rank.specs.Moves.{PutOut}
+use Rattle.comm_rank.specs.Rank.{Rank, halted, handed, sent_to}
+use Rattle.comm_rank.specs.Running.{TookAll}
+use Rattle.comm_rank.specs.Turns.{CutOff, FirstFull, FullAtFirst, IsCause, IsPut, LookedAt, NoneOrFull, Turned, WasCut}
+use Rattle.comm_rank.proofs.Folds.{if_full}
 
 none_taken : (from : ℕ) (placed : List Entry) → AllByRecursion IsPut placed → batches_taken from placed ≡ []
 none_taken from [] h = refl
@@ -34,7 +38,7 @@ module _ {C : Type 0} (apply : Applies C) (old mid new : Rank C) (before between
   still f = ap f out.rank
 
   -- all letters ran, and then a put was refused
-  pub cut_off : CutOff apply old new before after
+  cut_off : CutOff apply old new before after
   cut_off =
       let run = for_rank old.here (letters_taken first.taken) in
       let waits : new.waiting ≡ [] = still (λ me. me.waiting) ∙ first.nothing_waits in
@@ -52,44 +56,104 @@ module _ {C : Type 0} (apply : Applies C) (old mid new : Rank C) (before between
         sent_count = omega (arith, still (λ me. me.sent_count), first.advanced.sent_count);
       }
 
+  pub turned : (turn : Turn) → turn.took ≡ took → turn.put ≡ min (length placed) (2 ^ 64 - 1) → Turned apply old new before after turn
+  turned turn t p = record {
+    taken = first.taken;
+    placed = placed;
+    gained = record { log = whole_log; takes = first.gained.takes; in_order = first.gained.in_order; puts = out.puts };
+    advanced = record {
+      ran = out.ran ∙ first.advanced.ran;
+      contents = still (λ me. me.contents) ∙ first.advanced.contents;
+      sent = λ to. out.sent to ∙ first.advanced.sent to;
+      run_count = still (λ me. me.run_count) ∙ first.advanced.run_count;
+      sent_count = still (λ me. me.sent_count) ∙ first.advanced.sent_count;
+    };
+    nothing_waits = still (λ me. me.waiting) ∙ first.nothing_waits;
+    took = t ∙ first.took_count;
+    put = p;
+  }
+
+  pub was_cut : (fault : CommFault) → fault ≡ NoMemory → WasCut apply old new before after fault
+  was_cut fault is = rw is (record { cut_off = cut_off; full_at_first = tt; cause = record { count_full = tt; gave = tt; never_stopped = tt } })
+
 -- ---- at the post
 
-module _ (here there : ℕ) (a b c : Told) (same : there ≡ here) (first : PostTook here a b) (second : PostStands there b c) where
-  pub looked_then : (placed : List Entry) → c.log there ≡ b.log there ++ placed → AllByRecursion IsPut placed → (from : ℕ) → LookedAt here from a b → LookedAt here from a c
-  looked_then placed log puts from looked =
-      let P : ℕ → Type 0 = λ h. c.log h ≡ b.log h ++ placed in
-      elim looked [
-        | inl took ↦ inl (ap length (taken_stand from (b.log here) (c.log here) placed (subst P same log) puts) ∙ took)
-        | inr missed ↦ inr (subst (Rose (a.misses from)) (sym (second.misses from)) missed.0, missed.1)
-      ]
-
+-- the rank did this between `b` and `c`; between `a` and `b` no link was found full
+module _ (here there : ℕ) (a b c : Told) (same : there ≡ here) (fulls : SameFulls a b) (serves : (rank : ℕ) → b.serves rank ≡ a.serves rank) where
   pub met_then : (to : ℕ) (held : List (List Letter)) → NoneOrFull there to held b c → NoneOrFull here to held a c
   met_then to held met = elim met [
     | inl none ↦ inl none
     | inr full ↦ inr (record {
-      rose = subst (λ n. Rose n (c.fulls to)) (first.fulls to) full.rose;
+      rose = subst (λ n. Rose n (c.fulls to)) (fulls to) full.rose;
       some = full.some;
-      full = λ served. subst (λ h. IsTrue (is_full_in c h to)) same (full.full (subst IsTrue (sym (first.same.serves to)) served));
+      full = λ served. subst (λ h. IsTrue (is_full_in c h to)) same (full.full (subst IsTrue (sym (serves to)) served));
     })
   ]
 
   pub full_then : (ranks before : ℕ) → before ≡ ranks → (held : List (List Letter)) (full : Option ℕ) → FirstFull before held b c full → FirstFull ranks held a c full
-  full_then ranks before e held None none = λ rank. none rank ∙ first.fulls rank
-  full_then ranks before e held (Some to) found = (
-    omega (arith, found.0, e),
-    subst (λ n. Rose n (c.fulls to)) (first.fulls to) found.1,
-    found.2,
-    λ lower below. found.3 lower below ∙ first.fulls lower,
-  )
+  full_then ranks before e held None none = λ rank. none rank ∙ fulls rank
+  full_then ranks before e held (Some to) found = record {
+    within = omega (arith, found.within, e);
+    rose = subst (λ n. Rose n (c.fulls to)) (fulls to) found.rose;
+    some = found.some;
+    lower = λ rank below. found.lower rank below ∙ fulls rank;
+  }
 
--- ---- a turn that failed: the rank is stopped, and its log stands as the stop is raised
+pub looked_then : (here there : ℕ) (a b c : Told) → there ≡ here → SameMisses b c → (placed : List Entry) → c.log there ≡ b.log there ++ placed → AllByRecursion IsPut placed →
+    (from : ℕ) → LookedAt here from a b → LookedAt here from a c
+looked_then here there a b c same misses placed log puts from looked =
+    let P : ℕ → Type 0 = λ h. c.log h ≡ b.log h ++ placed in
+    elim looked [
+      | inl took ↦ inl (ap length (taken_stand from (b.log here) (c.log here) placed (subst P same log) puts) ∙ took)
+      | inr missed ↦ inr (subst (Rose (a.misses from)) (sym (misses from)) missed.0, missed.1)
+    ]
+
+-- ---- a turn that failed: the rank is stopped, and its log is unchanged as the stop is raised
 
 pub log_at : (here there : ℕ) (log after : ℕ → List Entry) → here ≡ there → after here ≡ log here → after there ≡ log there
 log_at here there log after e = subst (λ h. after h ≡ log h) e
 
-pub full_stopped : {C : Type 0} (apply : Applies C) (old was mid : Rank C) (before looked after now : List Entry) → was ≡ mid → looked ≡ before → now ≡ after →
-    FullAtFirst apply old mid looked after → FullAtFirst apply old (halted was) before now
-full_stopped {C} apply old was mid before looked after now e first last full =
-    let at_logs : FullAtFirst apply old mid before now = subst (FullAtFirst apply old mid before) (sym last) (subst (λ xs. FullAtFirst apply old mid xs after) first full) in
-    let there : FullAtFirst apply old was before now = subst (λ (me : Rank C). FullAtFirst apply old me before now) (sym e) at_logs in
-    record { run = there.run; ran = there.ran; behind = record { next = there.behind.next; waits = there.behind.waits; too_many = there.behind.too_many } }
+module _ {C : Type 0} (apply : Applies C) (old was mid : Rank C) (before looked after now : List Entry) (e : was ≡ mid) (first : looked ≡ before) (last : now ≡ after) where
+  at_logs : (P : Rank C → List Entry → List Entry → Type 0) → P mid looked after → P was before now
+  at_logs P h = subst (λ (me : Rank C). P me before now) (sym e) (subst (P mid before) (sym last) (subst (λ xs. P mid xs after) first h))
+
+  cut_stopped : CutOff apply old mid looked after → CutOff apply old (halted was) before now
+  cut_stopped cut =
+      let c = at_logs (CutOff apply old) cut in
+      record {
+        taken = c.taken;
+        placed = c.placed;
+        run = c.run;
+        given = c.given;
+        gained = c.gained;
+        arrived = c.arrived;
+        ran = c.ran;
+        begun = c.begun;
+        sent = c.sent;
+        run_count = c.run_count;
+        sent_count = c.sent_count;
+      }
+
+  full_stopped : FullAtFirst apply old mid looked after → FullAtFirst apply old (halted was) before now
+  full_stopped full =
+      let f = at_logs (FullAtFirst apply old) full in
+      record { run = f.run; ran = f.ran; behind = record { next = f.behind.next; waits = f.behind.waits; too_many = f.behind.too_many } }
+
+  pub was_cut_stopped : (fault : CommFault) → WasCut apply old mid looked after fault → WasCut apply old (halted was) before now fault
+  was_cut_stopped fault w =
+      let cause = at_logs (λ me xs ys. IsCause apply old me fault) w.cause in
+      record {
+        cut_off = cut_stopped w.cut_off;
+        full_at_first = if_full fault (λ _ full. full_stopped full) w.full_at_first;
+        cause = record { count_full = cause.count_full; gave = cause.gave; never_stopped = cause.never_stopped };
+      }
+
+pub unless_stopped : {P : Type 0} (fault : CommFault) → P → UnlessStopped fault P
+unless_stopped Stopped p = tt
+unless_stopped (CountFull at) p = p
+unless_stopped NoMemory p = p
+
+pub unless_stopped_then : {P Q : Type 0} (fault : CommFault) → (P → Q) → UnlessStopped fault P → UnlessStopped fault Q
+unless_stopped_then Stopped f p = tt
+unless_stopped_then (CountFull at) f p = f p
+unless_stopped_then NoMemory f p = f p

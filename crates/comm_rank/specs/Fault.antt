@@ -1,8 +1,7 @@
 -- When a rank's faults come.
-use Rattle.std.specs.Prelude.{◌≡◌, ℕ, ◌<◌, length, true, ⊤}
+use Rattle.std.specs.Prelude.{◌≡◌, ℕ, ◌<◌, length, ⊤}
 use Rattle.msg_codec.specs.declared.letter.Letter.{Letter}
 use Rattle.comm_rank.specs.Fold.{Applies}
-use Rattle.comm_rank.specs.Rank.{Rank}
 use Rattle.comm_rank.specs.declared.fault.CommFault.{CommFault}
 use Rattle.comm_rank.specs.declared.fault.CommFault.TheVariants.{Stopped, CountFull, NoMemory}
 
@@ -41,7 +40,3 @@ Gives {C} apply = (contents : C) × (here : ℕ) × (ranks : ℕ) × (letter : L
 -- while letters run, a full count is answered only where a handler sends others
 abbrev pub GivesIfFull : {C : Type 0} → Applies C → CommFault → Type 0
 GivesIfFull apply fault = IfCountFull fault (λ _. Gives apply)
-
--- the rank, stopped and else as it was
-abbrev pub halted : {C : Type 0} → Rank C → Rank C
-halted me = record me { stopped = true }

@@ -1,52 +1,17 @@
--- The letters that a rank holds, by destination.
-use Rattle.std.specs.Prelude.{◌≡◌, ◌≢◌, ℕ, ◌+◌, ◌<◌, ◌++◌, IsTrue, List, [], ◌∷◌, length, slice_index_or, slice_set}
-use Rattle.std.specs.List.{AllByRecursion}
+-- The letters that a rank holds, by the rank that they go to next.
+use Rattle.std.specs.Prelude.{◌≡◌, ℕ, ◌+◌, ◌++◌, List, [], length, slice_index_or}
 use Rattle.msg_codec.specs.declared.letter.Letter.{Letter}
-use Rattle.world_core.specs.Log.{letters_of}
-use Rattle.world_core.specs.Pairs.{is_data, of_pair, of_sender}
+use Rattle.world_core.specs.Pairs.{of_pair, of_sender}
 
--- the letters for one destination, and for how many batches more there is memory
-pub record Queued : Type 0 where
-  pub letters : List Letter
-  pub room : ℕ
-
--- the same by destination
-pub record Stored : Type 0 where
-  pub lists : List (List Letter)
-  pub room : List ℕ
-
+-- the letters that go to this rank next
 abbrev pub held_for : List (List Letter) → ℕ → List Letter
-held_for held to = slice_index_or held to []
+held_for held next = slice_index_or held next []
 
--- a data letter of some rank of so many for this destination
-pub record IsHeldFor (ranks to : ℕ) (l : Letter) : Type 0 where
-  pub destination : l.to ≡ to
-  pub sender : l.from < ranks
-  pub tag : IsTrue (is_data l)
+-- No closed batch is held for this next hop. Each letter is alone in a batch, which is closed at once.
+abbrev pub NoneClosed : List (List Letter) → ℕ → Type 0
+NoneClosed held next = held_for held next ≡ []
 
--- there is a list for each rank, with letters for it
-pub record AreHeld (ranks : ℕ) (held : List (List Letter)) : Type 0 where
-  pub all : length held ≡ ranks
-  pub each : (to : ℕ) → to < ranks → AllByRecursion (IsHeldFor ranks to) (held_for held to)
-
--- the same, and this letter last of those for its destination
-abbrev pub holding : List (List Letter) → Letter → List (List Letter)
-holding held l = slice_set held l.to (held_for held l.to ++ l ∷ [])
-
--- More letters are held: of each pair of ranks they come last, and of each sender they count.
-pub record Gains (before after : List (List Letter)) (letters : List Letter) : Type 0 where
-  pub pairs : (from to : ℕ) → of_pair from to (letters_of after) ≡ of_pair from to (letters_of before) ++ of_pair from to letters
-  pub senders : (from : ℕ) → length (of_sender from (letters_of after)) ≡ length (of_sender from (letters_of before)) + length (of_sender from letters)
-
--- Letters are held no longer: of each pair of ranks they were the first.
-pub record Loses (before after : List (List Letter)) (letters : List Letter) : Type 0 where
-  pub pairs : (from to : ℕ) → of_pair from to (letters_of before) ≡ of_pair from to letters ++ of_pair from to (letters_of after)
-  pub senders : (from : ℕ) → length (of_sender from (letters_of before)) ≡ length (of_sender from letters) + length (of_sender from (letters_of after))
-
--- what is held of a pair of ranks is in the list of its destination
-abbrev pub AreApart : List (List Letter) → ℕ → Type 0
-AreApart held to = (from : ℕ) → of_pair from to (letters_of held) ≡ of_pair from to (held_for held to)
-
--- the other lists stand
-abbrev pub OthersStand : ℕ → List (List Letter) → List (List Letter) → Type 0
-OthersStand to before after = (length after ≡ length before) × ((other : ℕ) → other ≢ to → held_for after other ≡ held_for before other)
+-- These letters are held in addition: of each pair of ranks they come last, and of each sender they count.
+pub record Gains (before after letters : List Letter) : Type 0 where
+  pub pairs : (from to : ℕ) → of_pair from to after ≡ of_pair from to before ++ of_pair from to letters
+  pub senders : (from : ℕ) → length (of_sender from after) ≡ length (of_sender from before) + length (of_sender from letters)

@@ -2,9 +2,10 @@ pub mod Agrees
 pub mod Fault
 pub mod Fold
 pub mod Held
-pub mod Puts
+pub mod Moves
 pub mod Rank
 pub mod Running
 pub mod Sends
 pub mod Settled
+pub mod Store
 pub mod Turns

@@ -1,14 +1,14 @@
 -- What is seen of a rank, and what it has sent and run.
-use Rattle.std.specs.Prelude.{◌≡◌, ℕ, ◌+◌, Bool, false, List, [], replicate}
+use Rattle.std.specs.Prelude.{◌≡◌, ℕ, ◌+◌, Bool, false, true, List, [], ◌∷◌, ◌++◌, replicate}
 use Rattle.msg_codec.specs.declared.letter.Letter.{Letter}
 use Rattle.ygm_route.specs.declared.scheme.Scheme.{Scheme}
 use Rattle.ygm_route.specs.Layout.{Shape}
 use Rattle.world_core.specs.declared.entry.Entry.{Entry}
 use Rattle.world_core.specs.Local.{Local}
 use Rattle.world_core.specs.Log.{letters_of}
-use Rattle.world_core.specs.Pairs.{ran, ran_from as pair_ran, sent}
+use Rattle.world_core.specs.Pairs.{of_pair, ran, ran_from as pair_ran, sent}
 use Rattle.comm_rank.specs.Fold.{Applies, fold_from, handed_from}
-use Rattle.comm_rank.specs.Held.{holding}
+use Rattle.comm_rank.specs.Held.{Gains}
 
 -- Its place in which world, how many letters it may send, what its handler keeps, its counts, by destination
 -- the letters that it holds, the letters that it took and that wait still, and whether it is stopped.
@@ -59,10 +59,6 @@ ran_at me log = ran me.here log me.waiting
 abbrev pub ran_from : {C : Type 0} → Rank C → List Entry → ℕ → List Letter
 ran_from me log from = pair_ran from me.here log me.waiting
 
--- the rank once it has sent one letter more, which it holds
-abbrev pub having_sent : {C : Type 0} → Rank C → Letter → Rank C
-having_sent me l = record me { sent_count = me.sent_count + 1; held = holding me.held l }
-
 -- what becomes of its contents as letters run, one after another, and what its handler gives then
 abbrev pub folded : {C : Type 0} → Applies C → Rank C → List Letter → C
 folded apply me letters = fold_from apply me.here me.layout.ranks me.contents letters
@@ -70,7 +66,24 @@ folded apply me letters = fold_from apply me.here me.layout.ranks me.contents le
 abbrev pub handed : {C : Type 0} → Applies C → Rank C → List Letter → List Letter
 handed apply me letters = handed_from apply me.here me.layout.ranks me.contents letters
 
--- a call leaves the rank what it is
+-- ---- what calls do to a rank
+
+-- the rank, stopped and otherwise unchanged
+abbrev pub halted : {C : Type 0} → Rank C → Rank C
+halted me = record me { stopped = true }
+
+-- One letter more was sent: it is held, it is the last that was sent to its destination, and it is counted. All else is
+-- unchanged.
+pub record HasSent {C : Type 0} (old new : Rank C) (l : Letter) : Type 0 where
+  pub held : Gains (held_letters old) (held_letters new) (l ∷ [])
+  pub sent : (log : List Entry) (to : ℕ) → sent_to new log to ≡ sent_to old log to ++ of_pair old.here to (l ∷ [])
+  pub rank : new ≡ record old { sent_count = old.sent_count + 1; held = new.held }
+
+-- Letters ran at the rank, or left it: all but this is unchanged.
+abbrev pub Worked : {C : Type 0} → Rank C → Rank C → Type 0
+Worked old new = new ≡ record old { contents = new.contents; sent_count = new.sent_count; run_count = new.run_count; held = new.held; waiting = new.waiting }
+
+-- the rank is of the same world, and there the same one
 pub record IsSameRank {C : Type 0} (old new : Rank C) : Type 0 where
   pub layout : new.layout ≡ old.layout
   pub scheme : new.scheme ≡ old.scheme

@@ -1,15 +1,19 @@
--- What a rank does with the letters that it took.
-use Rattle.std.specs.Prelude.{◌≡◌, ℕ, ◌+◌, ◌<◌, ◌≤◌, IsTrue, List, [], ◌∷◌, ◌++◌, length}
+-- What a rank does with the letters that it took. Only private functions cite this.
+use Rattle.std.specs.Prelude.{◌≡◌, ◌≢◌, ℕ, ◌+◌, ◌<◌, ◌≤◌, IsTrue, List, [], ◌∷◌, ◌++◌, length}
 use Rattle.std.specs.List.{AllByRecursion, AllPairs}
 use Rattle.msg_codec.specs.declared.letter.Letter.{Letter}
 use Rattle.world_core.specs.declared.entry.Entry.{Entry}
 use Rattle.world_core.specs.Log.{batches_taken, letters_taken}
 use Rattle.world_core.specs.Pairs.{is_data, for_rank}
+use Rattle.world_core.specs.Post.{CountsNeverFall, SameFulls, SamePost, SameStops, Told, link_in}
+use Rattle.world_core.specs.Rules.{IsHonest}
+use Rattle.comm_rank.specs.declared.fault.CommFault.{CommFault}
+use Rattle.comm_rank.specs.Agrees.{Belongs}
+use Rattle.comm_rank.specs.Fault.{IfCountFull}
 use Rattle.comm_rank.specs.Fold.{Applies}
 use Rattle.comm_rank.specs.Held.{Gains}
-use Rattle.comm_rank.specs.Rank.{Rank, folded, handed}
-use Rattle.comm_rank.specs.Turns.{Advanced, CutOff, HasBegun, IsFullBehind, IsTake, other_end}
-use Rattle.world_core.specs.Post.{SameFulls, SamePost, SameStops, Told, link_in}
+use Rattle.comm_rank.specs.Rank.{Rank, folded, handed, held_letters, local_of}
+use Rattle.comm_rank.specs.Turns.{Advanced, CutOff, HasBegun, IsCause, IsFullBehind, IsTake, LookedAt, FullAtFirst, other_end}
 
 -- a data letter for this rank
 pub record IsFor (rank : ℕ) (l : Letter) : Type 0 where
@@ -21,40 +25,55 @@ pub record IsOf (rank : ℕ) (l : Letter) : Type 0 where
   pub sender : l.from ≡ rank
   pub tag : IsTrue (is_data l)
 
+-- ---- letters that ran
+
 -- These letters ran, and all that the handler gave is held.
 pub record HasRunAll {C : Type 0} (apply : Applies C) (old new : Rank C) (run : List Letter) : Type 0 where
   pub contents : new.contents ≡ folded apply old run
-  pub held : Gains old.held new.held (handed apply old run)
+  pub held : Gains (held_letters old) (held_letters new) (handed apply old run)
   pub lawful : AllByRecursion (IsOf old.here) (handed apply old run)
   pub run_count : new.run_count ≡ old.run_count + length run
   pub sent_count : new.sent_count ≡ old.sent_count + length (handed apply old run)
 
--- the letter that waited first ran, and waits no longer
+-- the letter that waited first ran, and no longer waits
 pub record RanFirst {C : Type 0} (apply : Applies C) (old new : Rank C) : Type 0 where
   pub letter : Letter
   pub first : old.waiting ≡ letter ∷ new.waiting
   pub ran : HasRunAll apply old new (letter ∷ [])
 
--- These letters ran, and the one behind had not begun; or of what its handler gave only this first part is held.
+-- all letters that waited ran
+pub record RanWaiting {C : Type 0} (apply : Applies C) (old new : Rank C) : Type 0 where
+  pub ran : HasRunAll apply old new old.waiting
+  pub nothing_waits : new.waiting ≡ []
+
+-- ---- a letter that couldn't run
+
+-- These letters ran, and the next one had not begun; or of what its handler gave only this first part is held.
 pub record IsStuck {C : Type 0} (apply : Applies C) (old new : Rank C) (run given : List Letter) : Type 0 where
   pub begun : HasBegun apply old.here old.layout.ranks (folded apply old run) new.contents new.waiting given
-  pub held : Gains old.held new.held (handed apply old run ++ given)
+  pub held : Gains (held_letters old) (held_letters new) (handed apply old run ++ given)
   pub lawful : AllByRecursion (IsOf old.here) (handed apply old run ++ given)
   pub run_count : new.run_count ≡ old.run_count + length run
   pub sent_count : new.sent_count ≡ old.sent_count + length (handed apply old run) + length given
 
--- the first of the letters that waited ran, and the others wait
-pub record RanSome {C : Type 0} (apply : Applies C) (old new : Rank C) : Type 0 where
+-- the letter that waits first couldn't run
+pub record StuckFirst {C : Type 0} (apply : Applies C) (old new : Rank C) (fault : CommFault) : Type 0 where
+  pub given : List Letter
+  pub stuck : IsStuck apply old new [] given
+  pub still_waits : new.waiting ≡ old.waiting
+  pub full_at_first : IfCountFull fault (λ _. IsFullBehind apply old new [])
+  pub cause : IsCause apply old new fault
+
+-- the first of these letters, which waited, ran, and the others wait
+pub record StuckIn {C : Type 0} (apply : Applies C) (old new : Rank C) (waiting : List Letter) (fault : CommFault) : Type 0 where
   pub run : List Letter
   pub given : List Letter
-  pub waits : old.waiting ≡ run ++ new.waiting
+  pub waits : waiting ≡ run ++ new.waiting
   pub stuck : IsStuck apply old new run given
+  pub full_at_first : IfCountFull fault (λ _. IsFullBehind apply old new run)
+  pub cause : IsCause apply old new fault
 
--- the first of the letters that waited ran, and a full count came at the one behind
-pub record FullAmong {C : Type 0} (apply : Applies C) (old new : Rank C) : Type 0 where
-  pub run : List Letter
-  pub waits : old.waiting ≡ run ++ new.waiting
-  pub behind : IsFullBehind apply old new run
+-- ---- batches that were taken
 
 -- The log gained takes, at most one from each rank and in the order of ranks.
 pub record GainedTakes (before after taken : List Entry) : Type 0 where
@@ -88,16 +107,43 @@ pub record CutFrom {C : Type 0} (from : ℕ) (apply : Applies C) (old new : Rank
   pub alone : AllByRecursion (λ entry. other_end entry ≡ from) cut.taken
   pub one : length cut.taken ≤ 1
 
--- what takes leave at the post as it was
-pub record PostTook (here : ℕ) (old new : Told) : Type 0 where
-  pub same : SamePost here old new
-  pub stops : SameStops old new
-  pub fulls : SameFulls old new
-  pub halts : new.halts ≡ old.halts
-
--- nothing was taken from a rank, and no miss counted there; its link stands
+-- nothing was taken from a rank, and no miss counted there; its link is unchanged
 pub record NotLookedAt (here from : ℕ) (old new : Told) : Type 0 where
   pub taken : batches_taken from (new.log here) ≡ batches_taken from (old.log here)
   pub misses : new.misses from ≡ old.misses from
   pub serves : new.serves from ≡ old.serves from
   pub link : link_in new from here ≡ link_in old from here
+
+-- ---- the outcomes of takes, of the rank and of what the post shows
+
+-- from one rank
+pub record HasTakenFrom {C : Type 0} (from : ℕ) (apply : Applies C) (start : C → C) (old new : Rank C) (before after : Told) (took : ℕ) : Type 0 where
+  pub taken : TookFrom from apply old new (before.log old.here) (after.log old.here) took
+  pub belongs : Belongs apply start new after
+  pub looked : LookedAt old.here from before after
+  pub others : (other : ℕ) → other ≢ from → NotLookedAt old.here other before after
+
+-- cut off in a batch of one rank
+pub record WasCutFrom {C : Type 0} (from : ℕ) (apply : Applies C) (old new : Rank C) (before after : List Entry) (fault : CommFault) : Type 0 where
+  pub cut_from : CutFrom from apply old new before after
+  pub full_at_first : IfCountFull fault (λ _. FullAtFirst apply old new before after)
+  pub cause : IsCause apply old new fault
+
+-- from each rank
+pub record HasTakenAll {C : Type 0} (apply : Applies C) (start : C → C) (old new : Rank C) (before after : Told) (took : ℕ) : Type 0 where
+  pub taken : TookAll apply old new (before.log old.here) (after.log old.here) took
+  pub belongs : Belongs apply start new after
+  pub takes_from_each : (from : ℕ) → from < old.layout.ranks → LookedAt old.here from before after
+
+-- what work leaves unchanged at the post
+pub record WorkKeeps {C : Type 0} (me : Rank C) (before after : Told) : Type 0 where
+  pub same : SamePost me.here before after
+  pub honest : IsHonest (local_of me (before.log me.here)) → IsHonest (local_of me (after.log me.here))
+  pub stops : SameStops before after
+  pub halts : after.halts ≡ before.halts
+  pub counts : CountsNeverFall before after
+
+-- the same, and takes find no link full
+pub record TakesKeep {C : Type 0} (me : Rank C) (before after : Told) : Type 0 where
+  pub work : WorkKeeps me before after
+  pub fulls : SameFulls before after

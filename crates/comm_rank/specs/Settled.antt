@@ -8,9 +8,9 @@ use Rattle.world_core.specs.Plain.{Plain, told_by}
 use Rattle.world_core.specs.Sound.{IsPrefix}
 use Rattle.world_core.specs.World.{link, log_of}
 use Rattle.comm_rank.specs.Agrees.{Agrees}
-use Rattle.comm_rank.specs.Fault.{IfCountFull, IfStopped, IsFullAt, UnlessStopped, halted}
+use Rattle.comm_rank.specs.Fault.{IfCountFull, IfStopped, IsFullAt, UnlessStopped}
 use Rattle.comm_rank.specs.Fold.{Applies}
-use Rattle.comm_rank.specs.Rank.{Rank, IsSameRank, held_letters, sent_to, ran_from}
+use Rattle.comm_rank.specs.Rank.{Rank, IsSameRank, halted, held_letters, sent_to, ran_from}
 use Rattle.comm_rank.specs.Turns.{Advanced, CutOff, FullAtFirst}
 use Rattle.comm_rank.specs.declared.fault.CommFault.{CommFault}
 

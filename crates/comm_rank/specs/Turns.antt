@@ -1,17 +1,21 @@
 -- What a turn of a rank does.
-use Rattle.std.specs.Prelude.{◌≡◌, ◌⊎◌, ◌≢◌, ℕ, ◌+◌, ◌-◌, ◌^◌, ◌<◌, IsTrue, List, [], ◌∷◌, ◌++◌, Option, Some, None, length, min, slice_get, take, ⊤}
+use Rattle.std.specs.Prelude.{◌≡◌, ◌⊎◌, ◌≢◌, ℕ, ◌+◌, ◌-◌, ◌^◌, ◌<◌, true, IsTrue, List, [], ◌∷◌, ◌++◌, Option, Some, None, length, min, slice_get, take, ⊤}
 use Rattle.std.specs.List.{AllByRecursion, AllPairs}
 use Rattle.msg_codec.specs.declared.letter.Letter.{Letter}
 use Rattle.world_core.specs.declared.entry.Entry.{Entry}
 use Rattle.world_core.specs.declared.entry.Entry.TheVariants.{Put, Took}
 use Rattle.world_core.specs.Log.{batches_taken, letters_taken}
 use Rattle.world_core.specs.Pairs.{for_rank, of_pair}
-use Rattle.world_core.specs.Post.{Told, SameFulls, link_in}
+use Rattle.world_core.specs.Post.{CountsNeverFall, SameFulls, SamePost, SameStops, ServesAll, SomeRaised, Told, is_full_in, link_in}
 use Rattle.world_core.specs.Rising.{Rose}
+use Rattle.world_core.specs.Rules.{IsHonest}
 use Rattle.comm_rank.specs.declared.turn.Turn.{Turn}
+use Rattle.comm_rank.specs.declared.fault.CommFault.{CommFault}
+use Rattle.comm_rank.specs.Agrees.{Belongs}
+use Rattle.comm_rank.specs.Fault.{GivesIfFull, IfCountFull, IsFullAt, NeverStopped}
 use Rattle.comm_rank.specs.Fold.{Applies, given_by}
-use Rattle.comm_rank.specs.Held.{held_for}
-use Rattle.comm_rank.specs.Rank.{Rank, sent_to, ran_at, folded, handed}
+use Rattle.comm_rank.specs.Held.{NoneClosed}
+use Rattle.comm_rank.specs.Rank.{Rank, folded, halted, handed, local_of, ran_at, sent_to}
 
 -- ---- what its log gains
 
@@ -79,7 +83,7 @@ pub record CutOff {C : Type 0} (apply : Applies C) (old new : Rank C) (before af
   pub run_count : new.run_count ≡ old.run_count + length run
   pub sent_count : new.sent_count ≡ old.sent_count + length (handed apply old run) + length given
 
--- Behind these letters, which ran, one more is too many: with what the handler gives by the letter that waits first
+-- After these letters, which ran, one more is too many: with what the handler gives by the letter that waits first
 -- the rank would have sent more than it may.
 pub record IsFullBehind {C : Type 0} (apply : Applies C) (old new : Rank C) (run : List Letter) : Type 0 where
   pub next : Letter
@@ -92,6 +96,21 @@ pub record FullAtFirst {C : Type 0} (apply : Applies C) (old new : Rank C) (befo
   pub ran : ran_at new after ≡ ran_at old before ++ run
   pub behind : IsFullBehind apply old new run
 
+-- ---- why it failed
+
+-- The cause of a turn's own fault: a full count comes only of a rank that has sent as many letters as it may, and only
+-- where a handler sends others.
+pub record IsCause {C : Type 0} (apply : Applies C) (old new : Rank C) (fault : CommFault) : Type 0 where
+  pub count_full : IsFullAt new.sent_count old.most fault
+  pub gave : GivesIfFull apply fault
+  pub never_stopped : NeverStopped fault
+
+-- a turn that was cut off, and why
+pub record WasCut {C : Type 0} (apply : Applies C) (old new : Rank C) (before after : List Entry) (fault : CommFault) : Type 0 where
+  pub cut_off : CutOff apply old new before after
+  pub full_at_first : IfCountFull fault (λ _. FullAtFirst apply old new before after)
+  pub cause : IsCause apply old new fault
+
 -- ---- what it found at the post
 
 -- it took a batch from the rank, or found nothing there: where the post serves that rank too, the link was empty
@@ -100,8 +119,60 @@ LookedAt here from old new =
     (length (batches_taken from (new.log here)) ≡ length (batches_taken from (old.log here)) + 1)
     ⊎ (Rose (old.misses from) (new.misses from) × (IsTrue (old.serves from) → link_in old from here ≡ []))
 
--- A full link was found, first to this rank, one of so many; or none was.
+-- The link to a rank was found full, with a closed batch for it that is still held. Where the post serves both ends,
+-- the link is full.
+pub record MetFull (here to : ℕ) (held : List (List Letter)) (old new : Told) : Type 0 where
+  pub rose : Rose (old.fulls to) (new.fulls to)
+  pub some : NoneClosed held to → ⊥
+  pub full : IsTrue (old.serves to) → IsTrue (is_full_in new here to)
+
+-- no closed batch is held for a rank, or the link to it was found full
+abbrev pub NoneOrFull : ℕ → ℕ → List (List Letter) → Told → Told → Type 0
+NoneOrFull here to held old new = NoneClosed held to ⊎ MetFull here to held old new
+
+-- this rank, one of so many, is the lowest to which the link was found full
+pub record IsFirstFull (ranks to : ℕ) (held : List (List Letter)) (old new : Told) : Type 0 where
+  pub within : to < ranks
+  pub rose : Rose (old.fulls to) (new.fulls to)
+  pub some : NoneClosed held to → ⊥
+  pub lower : (rank : ℕ) → rank < to → new.fulls rank ≡ old.fulls rank
+
+-- such a rank, or no link was found full
 abbrev pub FirstFull : ℕ → List (List Letter) → Told → Told → Option ℕ → Type 0
 FirstFull ranks held old new None = SameFulls old new
-FirstFull ranks held old new (Some to) =
-    (to < ranks) × Rose (old.fulls to) (new.fulls to) × (held_for held to ≢ []) × ((lower : ℕ) → lower < to → new.fulls lower ≡ old.fulls lower)
+FirstFull ranks held old new (Some to) = IsFirstFull ranks to held old new
+
+-- ---- the outcomes of a turn: of the rank before and after it, and of what the post shows
+
+-- It ended: it took a batch from each link that had one, and put what the rank holds, until no closed batch was held or
+-- the link was full.
+pub record HasEnded {C : Type 0} (apply : Applies C) (start : C → C) (old new : Rank C) (before after : Told) (turn : Turn) : Type 0 where
+  pub turned : Turned apply old new (before.log old.here) (after.log old.here) turn
+  pub belongs : Belongs apply start new after
+  pub takes_from_each : (from : ℕ) → from < old.layout.ranks → LookedAt old.here from before after
+  pub puts_to_each : (to : ℕ) → to < old.layout.ranks → NoneOrFull old.here to new.held before after
+  pub full : FirstFull old.layout.ranks new.held before after turn.full
+  pub stops : SameStops before after
+  pub halts : after.halts ≡ before.halts
+
+-- It met the stop, which a rank had raised, and did nothing.
+pub record HasHalted {C : Type 0} (old new : Rank C) (before after : Told) : Type 0 where
+  pub does_nothing : new ≡ halted old
+  pub log : after.log old.here ≡ before.log old.here
+  pub raised_before : ServesAll before → SomeRaised before
+  pub stops : SameStops before after
+  pub halts : Rose before.halts after.halts
+
+-- It was cut off, and the rank raised the stop.
+pub record HasFailed {C : Type 0} (apply : Applies C) (old new : Rank C) (before after : Told) (fault : CommFault) : Type 0 where
+  pub was_cut : WasCut apply old new (before.log old.here) (after.log old.here) fault
+  pub raises_the_stop : after.raised old.here ≡ true
+  pub halts : after.halts ≡ before.halts
+
+-- What each turn leaves unchanged at the post: what it is of, the logs of other ranks, and whether these raised the stop.
+-- An honest log stays honest, and no count falls.
+pub record KeepsPost {C : Type 0} (me : Rank C) (before after : Told) : Type 0 where
+  pub same : SamePost me.here before after
+  pub honest : IsHonest (local_of me (before.log me.here)) → IsHonest (local_of me (after.log me.here))
+  pub other_stops : (rank : ℕ) → rank ≢ me.here → after.raised rank ≡ before.raised rank
+  pub counts : CountsNeverFall before after

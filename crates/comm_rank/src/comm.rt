@@ -1,13 +1,15 @@
 //! One rank of a world.
-ghost use Rattle.std.specs.Prelude.{◌≡◌, ◌≢◌, ◌<◌, ◌≤◌, ◌+◌, ◌^◌, ◌++◌, ℕ, List, [], ◌∷◌, false, length, Err, IfOk, IfErr, OnOk, OnErr};
+ghost use Rattle.std.specs.Prelude.{◌≡◌, ◌<◌, ◌≤◌, ◌+◌, ◌^◌, ℕ, List, [], ◌∷◌, false, length, Err, IfOk, IfErr, OnOk, OnErr};
 ghost use Rattle.msg_codec.specs.Letter.{letter_of};
 ghost use Rattle.world_core.specs.declared.entry.Entry.{Entry};
+ghost use Rattle.world_core.specs.Log.{letters_of};
 ghost use Rattle.ygm_route.specs.declared.scheme.Scheme.TheVariants.{Direct};
 ghost use Rattle.comm_rank.specs.Agrees.{Agrees};
 ghost use Rattle.comm_rank.specs.Fault.{IsFullAt, NeverStopped};
 ghost use Rattle.comm_rank.specs.declared.fault.CommFault.TheVariants.{CountFull};
-ghost use Rattle.comm_rank.specs.Held.{Gains, IsHeldFor, holding};
-ghost use Rattle.comm_rank.specs.Rank.{fresh_rank, having_sent, sent_to};
+ghost use Rattle.comm_rank.specs.Held.{Gains};
+ghost use Rattle.comm_rank.specs.Rank.{HasSent, fresh_rank};
+ghost use Rattle.comm_rank.specs.Store.{AreApart, IsHeldFor};
 
 use crate::held::Held;
 use crate::waiting::Waiting;
@@ -49,7 +51,7 @@ impl<H> Model for Comm<H> {
         × (comm.out.ranks ≡ comm.layout.ranks) × (comm.out.letters ≡ []) × (length comm.held.lists ≡ comm.layout.ranks) };
 }
 
-/// A rank that couldn't be made for want of memory. It gives the handler back.
+/// A rank that couldn't be made, out of memory. It gives the handler back.
 #[derive(Debug, Drop)]
 pub struct NotMade<H> {
     pub handler: H,
@@ -71,13 +73,11 @@ pub(crate) fn hold(
     requires limit { sent.old.limit ≡ most }
     requires destination { letter.to < length held.old.lists }
     requires data { IsHeldFor (length held.old.lists) letter.to (letter_of letter) }
-    ensures held { OnOk result (held.new.lists ≡ holding held.old.lists (letter_of letter.entry)) }
-    ensures gains { OnOk result (Gains held.old.lists held.new.lists (letter_of letter.entry ∷ [])) }
-    ensures all { length held.new.lists ≡ length held.old.lists }
-    ensures counted { OnOk result (sent.new.count ≡ sent.old.count + 1) }
+    ensures held { OnOk result (Gains (letters_of held.old.lists) (letters_of held.new.lists) (letter_of letter.entry ∷ [])) }
+    ensures counted { OnOk result (sent.new ≡ record sent.old { count = sent.old.count + 1 }) }
     ensures not_held { OnErr result (held.new.lists ≡ held.old.lists) }
-    ensures not_counted { OnErr result (sent.new.count ≡ sent.old.count) }
-    ensures limit { sent.new.limit ≡ sent.old.limit }
+    ensures not_counted { OnErr result (sent.new ≡ sent.old) }
+    ensures all { length held.new.lists ≡ length held.old.lists }
     ensures cause { IfErr result (IsFullAt sent.old.count most) }
     ensures full { most ≤ sent.old.count → result ≡ Err (CountFull most) }
     ensures never_stopped { IfErr result NeverStopped }
@@ -127,16 +127,13 @@ impl<H: Handler> Comm<H> {
     }
 
     /// Sends a letter to a rank, itself perhaps. The rank holds it until a turn puts it into its link. It is
-    /// refused where the rank has sent as many letters as it may, or memory is wanting: then nothing has
-    /// changed, and the body is lost.
+    /// refused where the rank has sent as many letters as it may, or out of memory: then nothing has changed, and
+    /// the body is lost.
     pub fn send(&mut self, to: u32, tag: u8, body: Body) -> Result<(), CommFault>
         requires destination { to < self.old.layout.ranks }
         requires data { tag < 240 }
         requires going { self.old.stopped ≡ false }
-        ensures sent { OnOk result ((log : List Entry) → sent_to self.new log to
-            ≡ sent_to self.old log to ++ record { to = to; from = self.old.here; tag = tag; body = body } ∷ []) }
-        ensures others { (log : List Entry) (other : ℕ) → other ≢ to → sent_to self.new log other ≡ sent_to self.old log other }
-        ensures held { OnOk result (self.new ≡ having_sent self.old (record { to = to; from = self.old.here; tag = tag; body = body })) }
+        ensures sent { OnOk result (HasSent self.old self.new (record { to = to; from = self.old.here; tag = tag; body = body })) }
         ensures unchanged { OnErr result (self.new ≡ self.old) }
         ensures cause { IfErr result (IsFullAt self.old.sent_count self.old.most) }
         ensures full { self.old.most ≤ self.old.sent_count → result ≡ Err (CountFull self.old.most) }
@@ -198,13 +195,16 @@ impl<H: Handler> Comm<H> {
         self.stopped
     }
 
-    /// It does nothing. Letters go straight to their destinations, and no rank has sent more than it may.
+    /// It does nothing. Letters go straight to their destinations, no rank has sent more than it may, and what is
+    /// held for a rank is in the list of that rank.
     pub(crate) fn holds(&self)
         ensures direct { self.now.scheme ≡ Direct }
         ensures within { self.now.sent_count ≤ self.now.most }
+        ensures apart { (to : ℕ) → AreApart self.now.held to }
     {
         let within = self.sent.count() <= self.limits.letters;
         prove!(within);
+        self.held.holds();
     }
 
     /// The handler, as the rank leaves it. It takes no memory.

@@ -1,8 +1,10 @@
 //! The letters that a rank holds until its links take them.
-ghost use Rattle.std.specs.Prelude.{◌≡◌, ◌<◌, ◌≤◌, ◌++◌, [], ◌∷◌, drop, length, replicate, slice_index_or, slice_set, IfOk, OnOk, OnErr, IfSome, OnSome, IsNone, MatchOption};
+ghost use Rattle.std.specs.Prelude.{◌≡◌, ◌<◌, ◌≤◌, ◌++◌, ℕ, [], ◌∷◌, drop, length, replicate, slice_index_or, slice_set, IfOk, OnOk, OnErr, IfSome, OnSome, IsNone, MatchOption};
 ghost use Rattle.msg_codec.specs.Letter.{letter_of};
 ghost use Rattle.msg_codec.specs.declared.letter.Letter.{Letter};
-ghost use Rattle.comm_rank.specs.Held.{AreApart, Gains, IsHeldFor, Loses, held_for, holding};
+ghost use Rattle.world_core.specs.Log.{letters_of};
+ghost use Rattle.comm_rank.specs.Held.{Gains, held_for};
+ghost use Rattle.comm_rank.specs.Store.{AreApart, IsHeldFor, Loses, holding};
 
 use msg_codec::{Batch, LetterRef};
 use std::alloc::{AllocError, Global};
@@ -19,7 +21,7 @@ impl Model for Queue {
     ghost use Rattle.std.specs.Prelude.{◌≡◌, ◌-◌, length};
     ghost use Rattle.std.specs.List.{flat_map, AllByRecursion};
     ghost use Rattle.std.specs.VecDeque.{deque_capacity, deque_len};
-    ghost use Rattle.comm_rank.specs.Held.{Queued};
+    ghost use Rattle.comm_rank.specs.Store.{Queued};
 
     ghost Value = { Queued };
 
@@ -38,7 +40,7 @@ impl Queue {
         self.batches.len()
     }
 
-    /// A batch of one letter joins, behind the others.
+    /// A batch of one letter joins, after the others.
     fn push(&mut self, batch: Batch) -> Result<(), AllocError>
         requires one { length batch ≡ 1 }
         ensures ok { OnOk result (self.new.letters ≡ self.old.letters ++ batch) }
@@ -78,7 +80,7 @@ pub(crate) struct Held {
 
 impl Model for Held {
     ghost use Rattle.std.specs.Prelude.{map};
-    ghost use Rattle.comm_rank.specs.Held.{AreHeld, Stored};
+    ghost use Rattle.comm_rank.specs.Store.{AreHeld, Stored};
 
     ghost Value = { Stored };
 
@@ -105,12 +107,12 @@ impl Held {
         })
     }
 
-    /// Holds a copy of the letter, behind the others for its destination.
+    /// Holds a copy of the letter, after the others for its destination.
     pub(crate) fn add(&mut self, letter: LetterRef<'_>) -> Result<(), AllocError>
         requires data { IsHeldFor (length self.old.lists) letter.to (letter_of letter) }
         requires within { letter.to < length self.old.lists }
         ensures ok { OnOk result (self.new.lists ≡ holding self.old.lists (letter_of letter.entry)) }
-        ensures gains { OnOk result (Gains self.old.lists self.new.lists (letter_of letter.entry ∷ [])) }
+        ensures gains { OnOk result (Gains (letters_of self.old.lists) (letters_of self.new.lists) (letter_of letter.entry ∷ [])) }
         ensures err { OnErr result (self.new.lists ≡ self.old.lists) }
     {
         let mut batch = Batch::empty(self.alloc);
@@ -150,5 +152,12 @@ impl Held {
         ensures apart { AreApart self.new.lists to }
     {
         self.queues[to as usize].give_back(batch);
+    }
+
+    /// It does nothing. What is held of a pair of ranks is in the list of its destination.
+    pub(crate) fn holds(&self)
+        ensures { (to : ℕ) → AreApart self.now.lists to }
+    {
+        let _ = &self.alloc;
     }
 }

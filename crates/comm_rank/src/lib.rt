@@ -8,6 +8,7 @@ mod fault;
 mod handler;
 mod held;
 mod laws;
+mod put_out;
 #[cfg(test)]
 mod tests;
 mod turn;

@@ -1,12 +1,12 @@
-use Rattle.std.proofs.Common.{arith, map, ◌∙◌}
+use Rattle.std.proofs.Common.{map, ◌∙◌}
+use Rattle.world_core.specs.Log.{letters_of}
 use Rattle.comm_rank.specs.Fold.{letter_by}
-use Rattle.comm_rank.proofs.Gaining.{gains_next}
+use Rattle.comm_rank.proofs.Gaining.{count_then, gains_next}
 use Rattle.comm_rank.proofs.turn.send_out.Goals as goal
 
 pub loop-k-preserved : goal.loop-k-preserved
 loop-k-preserved c = record {
-  gains = gains_next c.args.held.now.lists c.loop-k.held.lists c.hold.new.held.lists (map (letter_by c.args.here) c.args.out.now.letters) c.loop-k.k _ c.loop-k.invariant.gains c.letter.ensures.letter c.in_ok-hold.ensures.gains;
-  counted = omega (arith, c.in_ok-hold.ensures.counted, c.loop-k.invariant.counted);
-  limit = c.hold.ensures.limit ∙ c.loop-k.invariant.limit;
+  held = gains_next (letters_of c.args.held.now.lists) (letters_of c.loop-k.held.lists) (letters_of c.hold.new.held.lists) (map (letter_by c.args.here) c.args.out.now.letters) c.loop-k.k _ c.loop-k.invariant.held c.letter.ensures.letter c.in_ok-hold.ensures.held;
+  counted = count_then c.args.sent.now c.loop-k.sent c.hold.new.sent c.loop-k.k 1 c.loop-k.invariant.counted c.in_ok-hold.ensures.counted;
   all = c.hold.ensures.all ∙ c.loop-k.invariant.all;
 }

@@ -1,9 +1,10 @@
-use Rattle.std.proofs.Common.{◌≡◌, sym, ap, ◌∙◌, subst, arith}
+use Rattle.std.proofs.Common.{◌≡◌, sym, ap, subst, arith}
+use Rattle.std.proofs.lemmas.Result.{IfErr-weaker, IfOk-weaker}
 use Rattle.world_core.specs.Post.{Told}
-use Rattle.comm_rank.specs.Agrees.{Agrees}
-use Rattle.comm_rank.specs.Puts.{PutOut}
+use Rattle.comm_rank.specs.Agrees.{Belongs}
 use Rattle.comm_rank.specs.Rank.{Rank}
-use Rattle.comm_rank.proofs.PutOut.{agrees_after, may_put, put_out}
+use Rattle.comm_rank.specs.Moves.{HasPutAll, MoveKeeps, PutAllFailed}
+use Rattle.comm_rank.proofs.PutOut.{belongs_after, has_put_all, honest_moved, may_put, moved_each, put_all_failed}
 use Rattle.comm_rank.proofs.comm.Comm.put_all.Goals as goal
 
 pub put_each-requires-clause-may_put : goal.put_each-requires-clause-may_put
@@ -12,32 +13,57 @@ put_each-requires-clause-may_put g c =
     let me : Rank g.row.H.Denot = record { layout = i.layout; scheme = i.scheme; here = i.here; most = i.limits.letters; contents = i.handler; sent_count = i.sent.count; run_count = i.ran; held = i.held.lists; waiting = i.waiting; stopped = i.stopped } in
     let is : me ≡ c.args.self.now = c.self.view_is in
     let old : Told = g.P.Post.told c.args.post.now in
-    let P : Rank g.row.H.Denot → Type 0 = λ m. Agrees g.H.Handler.apply g.H.Handler.start m (old.log m.here) in
-    may_put g.H.Handler.apply g.H.Handler.start me old (subst P (sym is) c.requires.agrees) c.self.invariant.1 c.self.invariant.0 c.self.invariant.5
-    (c.requires.layout ∙ ap (λ (m : Rank g.row.H.Denot). m.layout) (sym is)) (c.requires.scheme ∙ ap (λ (m : Rank g.row.H.Denot). m.scheme) (sym is))
-    (ap (λ (m : Rank g.row.H.Denot). old.serves m.here) is ∙ c.requires.serves)
+    may_put g.H.Handler.apply g.H.Handler.start me old (subst (λ m. Belongs g.H.Handler.apply g.H.Handler.start m old) (sym is) c.requires.belongs) c.self.invariant.1 c.self.invariant.0 c.self.invariant.5
     (omega (arith, c.count.ensures.value, c.if-prove.false, i.limits.few_letters))
 
-pub returns-clause-put_out : goal.returns-clause-put_out
-returns-clause-put_out g c =
+pub returns-clause-put : goal.returns-clause-put
+returns-clause-put g c =
     let i = c.self.inside in
     let me : Rank g.row.H.Denot = record { layout = i.layout; scheme = i.scheme; here = i.here; most = i.limits.letters; contents = i.handler; sent_count = i.sent.count; run_count = i.ran; held = i.held.lists; waiting = i.waiting; stopped = i.stopped } in
     let is : me ≡ c.args.self.now = c.self.view_is in
     let old : Told = g.P.Post.told c.args.post.now in
     let new : Told = g.P.Post.told c.put_each.new.post in
-    let P : Rank g.row.H.Denot → Type 0 = λ m. Agrees g.H.Handler.apply g.H.Handler.start m (old.log m.here) in
-    let m = c.put_each.ensures.moved in
-    let Q : Rank g.row.H.Denot → Type 0 = λ r. PutOut r (record me { held = c.put_each.new.held.lists }) (old.log r.here) (new.log r.here) m.0 in
-    (m.0, subst Q is (put_out g.H.Handler.apply g.H.Handler.start me old (subst P (sym is) c.requires.agrees) c.self.invariant.1 c.put_each.new.held.lists new m.0 m.1), m.2)
+    let held = c.put_each.new.held.lists in
+    let belongs : Belongs g.H.Handler.apply g.H.Handler.start me old = subst (λ m. Belongs g.H.Handler.apply g.H.Handler.start m old) (sym is) c.requires.belongs in
+    IfOk-weaker c.put_each.result _ _
+    (λ what p. subst (λ (m : Rank g.row.H.Denot). HasPutAll m (record me { held = held }) old new what.0 what.1) is (has_put_all g.H.Handler.apply g.H.Handler.start me old belongs c.self.invariant.1 held new what.0 what.1 _ c.ranks.ensures.value p)) c.put_each.ensures.put
 
-pub returns-clause-agrees : goal.returns-clause-agrees
-returns-clause-agrees g c =
+pub returns-clause-failed : goal.returns-clause-failed
+returns-clause-failed g c =
     let i = c.self.inside in
     let me : Rank g.row.H.Denot = record { layout = i.layout; scheme = i.scheme; here = i.here; most = i.limits.letters; contents = i.handler; sent_count = i.sent.count; run_count = i.ran; held = i.held.lists; waiting = i.waiting; stopped = i.stopped } in
     let is : me ≡ c.args.self.now = c.self.view_is in
     let old : Told = g.P.Post.told c.args.post.now in
     let new : Told = g.P.Post.told c.put_each.new.post in
-    let P : Rank g.row.H.Denot → Type 0 = λ m. Agrees g.H.Handler.apply g.H.Handler.start m (old.log m.here) in
-    let m = c.put_each.ensures.moved in
-    let Q : Rank g.row.H.Denot → Type 0 = λ r. Agrees g.H.Handler.apply g.H.Handler.start (record me { held = c.put_each.new.held.lists }) (new.log r.here) in
-    subst Q is (agrees_after g.H.Handler.apply g.H.Handler.start me old (subst P (sym is) c.requires.agrees) c.self.invariant.1 c.put_each.new.held.lists new m.0 m.1)
+    let held = c.put_each.new.held.lists in
+    let belongs : Belongs g.H.Handler.apply g.H.Handler.start me old = subst (λ m. Belongs g.H.Handler.apply g.H.Handler.start m old) (sym is) c.requires.belongs in
+    IfErr-weaker c.put_each.result _ _
+    (λ fault f. subst (λ (m : Rank g.row.H.Denot). PutAllFailed m (record me { held = held }) old new fault) is (put_all_failed g.H.Handler.apply g.H.Handler.start me old belongs c.self.invariant.1 held new fault f)) c.put_each.ensures.failed
+
+pub returns-clause-belongs : goal.returns-clause-belongs
+returns-clause-belongs g c =
+    let i = c.self.inside in
+    let me : Rank g.row.H.Denot = record { layout = i.layout; scheme = i.scheme; here = i.here; most = i.limits.letters; contents = i.handler; sent_count = i.sent.count; run_count = i.ran; held = i.held.lists; waiting = i.waiting; stopped = i.stopped } in
+    let is : me ≡ c.args.self.now = c.self.view_is in
+    let old : Told = g.P.Post.told c.args.post.now in
+    let new : Told = g.P.Post.told c.put_each.new.post in
+    let held = c.put_each.new.held.lists in
+    let belongs : Belongs g.H.Handler.apply g.H.Handler.start me old = subst (λ m. Belongs g.H.Handler.apply g.H.Handler.start m old) (sym is) c.requires.belongs in
+    let m = moved_each i.here _ i.held.lists held old new c.put_each.result c.put_each.ensures.put c.put_each.ensures.failed in
+    belongs_after g.H.Handler.apply g.H.Handler.start me old belongs c.self.invariant.1 held new m.0 m.1
+
+pub returns-clause-honest : goal.returns-clause-honest
+returns-clause-honest g c =
+    let i = c.self.inside in
+    let old : Told = g.P.Post.told c.args.post.now in
+    let new : Told = g.P.Post.told c.put_each.new.post in
+    let m = moved_each i.here _ i.held.lists c.put_each.new.held.lists old new c.put_each.result c.put_each.ensures.put c.put_each.ensures.failed in
+    honest_moved g.H.Handler.apply g.H.Handler.start c.args.self.now i.here old new (ap (λ (m : Rank g.row.H.Denot). m.here) c.self.view_is) c.requires.belongs m.1.keeps.same m.1.honest
+
+pub returns-clause-keeps : goal.returns-clause-keeps
+returns-clause-keeps g c =
+    let i = c.self.inside in
+    let old : Told = g.P.Post.told c.args.post.now in
+    let new : Told = g.P.Post.told c.put_each.new.post in
+    let m = moved_each i.here _ i.held.lists c.put_each.new.held.lists old new c.put_each.result c.put_each.ensures.put c.put_each.ensures.failed in
+    subst (λ h. MoveKeeps h old new) (ap (λ (m : Rank g.row.H.Denot). m.here) c.self.view_is) m.1.keeps

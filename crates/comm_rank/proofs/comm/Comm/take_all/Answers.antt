@@ -1,53 +1,46 @@
-use Rattle.std.proofs.Common.{◌∙◌, ℕ, IfErr, refl, subst, arith, rules}
+use Rattle.std.proofs.Common.{ℕ, IfErr, refl, subst, arith, rules}
 use Rattle.std.proofs.lemmas.Result.{IfErr-weaker}
-use Rattle.comm_rank.specs.Agrees.{Agrees}
-use Rattle.comm_rank.specs.Fault.{IfCountFull}
-use Rattle.comm_rank.specs.Running.{CutFrom, TookFrom}
-use Rattle.comm_rank.specs.Turns.{FullAtFirst}
-use Rattle.comm_rank.proofs.Folds.{full_weaker, on_err}
-use Rattle.comm_rank.proofs.Joining.{cut_later, full_joined, joined, looked_below, not_looked_above, post_more, post_none, took_nothing}
-use Rattle.comm_rank.proofs.Taking.{honest_on}
+use Rattle.comm_rank.specs.Running.{TookFrom, WasCutFrom}
+use Rattle.comm_rank.proofs.Joining.{cut_later, joined, looked_below, not_looked_above, took_nothing}
+use Rattle.comm_rank.proofs.Kept.{takes_none, takes_then}
+use Rattle.comm_rank.proofs.Same.{same_rank, worked_then}
 use Rattle.comm_rank.proofs.comm.Comm.take_all.Goals as goal
 
 pub loop-from-init : goal.loop-from-init
 loop-from-init g c = record {
-  took = took_nothing g.H.Handler.apply c.args.self.now _ 0 c.requires.agrees.nothing_waits;
-  agrees = c.requires.agrees;
+  taken = took_nothing g.H.Handler.apply c.args.self.now _ 0 c.requires.belongs.agrees.nothing_waits;
+  belongs = c.requires.belongs;
   looked = λ k none. absurd (omega (arith, none));
   others = λ k past. record { taken = refl; misses = refl; serves = refl; link = refl };
-  post = post_none c.args.self.now.here (g.P.Post.told c.args.post.now);
-  honest = λ h. h;
-  same_rank = record { layout = refl; scheme = refl; here = refl; most = refl };
-  stopped = refl;
+  keeps = takes_none c.args.self.now (g.P.Post.told c.args.post.now);
+  rank = refl;
   ranks = c.ranks-from-end.ensures.value;
   few = omega arith;
 }
 
-pub returns-in_err-took-clause-cut_off : goal.returns-in_err-took-clause-cut_off
-returns-in_err-took-clause-cut_off g c =
+pub returns-in_err-took-clause-cut : goal.returns-in_err-took-clause-cut
+returns-in_err-took-clause-cut g c =
     let apply = g.H.Handler.apply in
     let told = g.P.Post.told in
     let old = c.args.self.now in
     let mid = c.loop-from.self in
     let new = c.take_from.new.self in
     let from = c.loop-from.from in
-    let same = c.loop-from.invariant.same_rank in
-    let P : ℕ → Type 0 = λ h. CutFrom from apply mid new ((told c.loop-from.post).log h) ((told c.take_from.new.post).log h) in
-    on_err c.from_residual.result _
-    (cut_later apply old mid new _ _ _ same from c.loop-from.took c.loop-from.invariant.took (subst P same.here c.in_err-took.ensures.cut_off))
-
-pub returns-in_err-took-clause-full_at_first : goal.returns-in_err-took-clause-full_at_first
-returns-in_err-took-clause-full_at_first g c =
-    let apply = g.H.Handler.apply in
-    let told = g.P.Post.told in
-    let mid = c.loop-from.self in
-    let new = c.take_from.new.self in
-    let same = c.loop-from.invariant.same_rank in
-    let P : ℕ → Type 0 = λ h. FullAtFirst apply mid new ((told c.loop-from.post).log h) ((told c.take_from.new.post).log h) in
-    let there : IfErr c.from_residual.result (λ fault. IfCountFull fault (λ _. P mid.here)) = search rules in
+    let inv = c.loop-from.invariant in
+    let same = same_rank old mid inv.rank in
+    let there : IfErr c.from_residual.result (WasCutFrom from apply mid new ((told c.loop-from.post).log mid.here) ((told c.take_from.new.post).log mid.here)) = search rules in
     IfErr-weaker c.from_residual.result _ _
-    (full_weaker _ _ (λ _ full. full_joined apply c.args.self.now mid new _ _ _ same c.loop-from.from c.loop-from.took c.loop-from.invariant.took (subst P same.here full)))
-    there
+    (λ fault cut.
+    let P : ℕ → Type 0 = λ h. WasCutFrom from apply mid new ((told c.loop-from.post).log h) ((told c.take_from.new.post).log h) fault in
+    cut_later apply old mid new _ _ _ same from c.loop-from.took inv.taken fault (subst P same.here cut)) there
+
+pub returns-in_err-took-clause-rank : goal.returns-in_err-took-clause-rank
+returns-in_err-took-clause-rank g c = worked_then c.args.self.now c.loop-from.self c.take_from.new.self c.loop-from.invariant.rank c.take_from.ensures.rank
+
+pub returns-in_err-took-clause-keeps : goal.returns-in_err-took-clause-keeps
+returns-in_err-took-clause-keeps g c =
+    let inv = c.loop-from.invariant in
+    takes_then c.args.self.now c.loop-from.self (same_rank c.args.self.now c.loop-from.self inv.rank) _ _ _ inv.keeps c.take_from.ensures.keeps
 
 pub loop-from-preserved : goal.loop-from-preserved
 loop-from-preserved g c =
@@ -58,25 +51,26 @@ loop-from-preserved g c =
     let new = c.take_from.new.self in
     let from = c.loop-from.from in
     let inv = c.loop-from.invariant in
-    let same = inv.same_rank in
-    let now = c.take_from.ensures.same_rank in
+    let same = same_rank old mid inv.rank in
+    let has = c.in_ok-took.ensures.took in
     let P : ℕ → Type 0 = λ h. TookFrom from apply mid new ((told c.loop-from.post).log h) ((told c.take_from.new.post).log h) c.in_ok-took.field-0 in
-    let A : ℕ → Type 0 = λ h. Agrees apply g.H.Handler.start new ((told c.take_from.new.post).log h) in
-    let second = subst P same.here c.in_ok-took.ensures.took in
+    let second = subst P same.here has.taken in
     record {
-      took = joined apply old mid new _ _ _ same from c.loop-from.took inv.took c.in_ok-took.field-0 second;
-      agrees = subst A same.here c.in_ok-took.ensures.agrees;
-      looked = looked_below old.here mid.here from _ _ _ same.here inv.looked inv.others c.in_ok-took.ensures.looked c.in_ok-took.ensures.others;
-      others = not_looked_above old.here mid.here from _ _ _ same.here inv.others c.in_ok-took.ensures.others;
-      post = post_more old.here mid.here _ _ _ same.here inv.post c.take_from.ensures.post_took;
-      honest = λ h. honest_on mid old (told c.loop-from.post).log (told c.take_from.new.post).log same c.take_from.ensures.honest (inv.honest h);
-      same_rank = record {
-        layout = now.layout ∙ same.layout;
-        scheme = now.scheme ∙ same.scheme;
-        here = now.here ∙ same.here;
-        most = now.most ∙ same.most;
-      };
-      stopped = c.take_from.ensures.stopped ∙ inv.stopped;
+      taken = joined apply old mid new _ _ _ same from c.loop-from.took inv.taken c.in_ok-took.field-0 second;
+      belongs = has.belongs;
+      looked = looked_below old.here mid.here from _ _ _ same.here inv.looked inv.others has.looked has.others;
+      others = not_looked_above old.here mid.here from _ _ _ same.here inv.others has.others;
+      keeps = takes_then old mid same _ _ _ inv.keeps c.take_from.ensures.keeps;
+      rank = worked_then old mid new inv.rank c.take_from.ensures.rank;
       ranks = inv.ranks;
       few = omega (arith, inv.few, second.one);
+    }
+
+pub returns-clause-took : goal.returns-clause-took
+returns-clause-took g c =
+    let inv = c.loop-from.invariant in
+    record {
+      taken = inv.taken.all;
+      belongs = inv.belongs;
+      takes_from_each = λ from within. inv.looked from (omega (arith, within, c.loop-from-test.false, inv.ranks));
     }

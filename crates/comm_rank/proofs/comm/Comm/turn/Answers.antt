@@ -1,19 +1,26 @@
-use Rattle.std.proofs.Common.{◌≡◌, ◌∙◌, ap}
+use Rattle.std.proofs.Common.{◌≡◌, ◌∙◌, ap, refl, subst, true}
 use Rattle.std.proofs.lemmas.Result.{IfErr-weaker}
 use Rattle.comm_rank.specs.Rank.{Rank}
-use Rattle.comm_rank.proofs.Folds.{full_weaker}
-use Rattle.comm_rank.proofs.Turning.{full_stopped, log_at}
+use Rattle.comm_rank.proofs.Same.{same_rank}
+use Rattle.comm_rank.proofs.Turning.{log_at, unless_stopped, was_cut_stopped}
 use Rattle.comm_rank.proofs.comm.Comm.turn.Goals as goal
 
-pub returns-then-is_err-clause-full_at_first : goal.returns-then-is_err-clause-full_at_first
-returns-then-is_err-clause-full_at_first g c =
+pub returns-then-is_err-clause-failed : goal.returns-then-is_err-clause-failed
+returns-then-is_err-clause-failed g c =
     let told = g.P.Post.told in
     let old = c.args.self.now in
-    let did = c.work-ended.ensures in
-    let first : (told c.stopped.new.self).log old.here ≡ (told c.args.post.now).log old.here =
-    log_at c.self.inside.here old.here (told c.args.post.now).log (told c.stopped.new.self).log (ap (λ (me : Rank _). me.here) c.self.view_is) c.stopped.ensures.log in
-    let last : (told c.raise_stop.new.self).log old.here ≡ (told c.work-ended.new.post).log old.here =
-    log_at c.self-2.inside.here old.here (told c.work-ended.new.post).log (told c.raise_stop.new.self).log (ap (λ (me : Rank _). me.here) c.self-2.view_is ∙ did.same_rank.here) c.raise_stop.ensures.log in
+    let mid = c.work-ended.new.self in
+    let before = told c.args.post.now in
+    let looked = told c.stopped.new.self in
+    let after = told c.work-ended.new.post in
+    let now = told c.raise_stop.new.self in
+    let here : c.self.inside.here ≡ old.here = ap (λ (me : Rank _). me.here) c.self.view_is in
+    let still : c.self-2.inside.here ≡ old.here = ap (λ (me : Rank _). me.here) c.self-2.view_is ∙ (same_rank old mid c.work-ended.ensures.rank).here in
+    let first : looked.log old.here ≡ before.log old.here = log_at c.self.inside.here old.here before.log looked.log here c.stopped.ensures.keeps.log in
+    let last : now.log old.here ≡ after.log old.here = log_at c.self-2.inside.here old.here after.log now.log still c.raise_stop.ensures.keeps.log in
     IfErr-weaker c.work-ended.result _ _
-    (full_weaker _ _ (λ _ full. full_stopped g.H.Handler.apply old _ c.work-ended.new.self _ _ _ _ c.self-2.view_is first last full))
-    did.full_at_first
+    (λ fault cut. unless_stopped fault (record {
+      was_cut = was_cut_stopped g.H.Handler.apply old _ mid _ _ _ _ c.self-2.view_is first last fault cut;
+      raises_the_stop = subst (λ h. now.raised h ≡ true) still c.raise_stop.ensures.raised.raised;
+      halts = c.raise_stop.ensures.keeps.halts ∙ c.work-ended.ensures.keeps.halts ∙ (c.if-stopped.ensures.saw_none refl).halts;
+    })) c.work-ended.ensures.cut

@@ -1,33 +1,56 @@
-use Rattle.std.proofs.Common.{ℕ, ap, subst, arith}
+use Rattle.std.proofs.Common.{ℕ, IfErr, refl, ap, ◌∙◌, subst, arith, rules}
+use Rattle.std.proofs.lemmas.Result.{IfErr-weaker}
 use Rattle.ygm_route.specs.Layout.{Shape}
-use Rattle.comm_rank.specs.Puts.{PutOut}
-use Rattle.comm_rank.proofs.Folds.{on_err}
-use Rattle.comm_rank.proofs.Turning.{cut_off, full_then, looked_then, met_then}
+use Rattle.comm_rank.specs.Moves.{PutAllFailed, PutOut}
+use Rattle.comm_rank.proofs.Kept.{puts_then}
+use Rattle.comm_rank.proofs.Same.{same_rank}
+use Rattle.comm_rank.proofs.Turning.{full_then, looked_then, met_then, turned, was_cut}
 use Rattle.comm_rank.proofs.comm.Comm.work.Goals as goal
 
-pub returns-in_err-put-clause-cut_off : goal.returns-in_err-put-clause-cut_off
-returns-in_err-put-clause-cut_off g c =
+pub returns-in_err-put-clause-cut : goal.returns-in_err-put-clause-cut
+returns-in_err-put-clause-cut g c =
     let told = g.P.Post.told in
+    let old = c.args.self.now in
     let mid = c.take_all.new.self in
     let new = c.put_all.new.self in
-    let out = c.put_all.ensures.put_out in
-    let P : ℕ → Type 0 = λ h. PutOut mid new ((told c.take_all.new.post).log h) ((told c.put_all.new.post).log h) out.0 in
-    on_err c.from_residual-in_err-put.result _
-    (cut_off g.H.Handler.apply c.args.self.now mid new _ _ _ c.in_ok-took.took c.in_ok-took.ensures.took out.0 (subst P c.take_all.ensures.same_rank.here out.1))
+    let same = same_rank old mid c.take_all.ensures.rank in
+    let there : IfErr c.from_residual-in_err-put.result (PutAllFailed mid new (told c.take_all.new.post) (told c.put_all.new.post)) = search rules in
+    IfErr-weaker c.from_residual-in_err-put.result _ _
+    (λ fault f.
+    let P : ℕ → Type 0 = λ h. PutOut mid new ((told c.take_all.new.post).log h) ((told c.put_all.new.post).log h) f.placed in
+    was_cut g.H.Handler.apply old mid new _ _ _ c.in_ok-took.took c.in_ok-took.ensures.took.taken f.placed (subst P same.here f.out) fault f.no_memory) there
 
-pub returns-clause-takes_from_each : goal.returns-clause-takes_from_each
-returns-clause-takes_from_each g c =
-    let out = c.put_all.ensures.put_out in
-    λ from within.
-    looked_then c.args.self.now.here c.take_all.new.self.here _ _ _ c.take_all.ensures.same_rank.here c.take_all.ensures.post_took c.put_all.ensures.post_stands
-    out.0 out.1.log out.1.puts from (c.in_ok-took.ensures.takes_from_each from within)
+pub returns-in_err-put-clause-keeps : goal.returns-in_err-put-clause-keeps
+returns-in_err-put-clause-keeps g c =
+    puts_then c.args.self.now c.take_all.new.self (same_rank c.args.self.now c.take_all.new.self c.take_all.ensures.rank) _ _ _ c.take_all.ensures.keeps c.put_all.ensures.keeps c.put_all.ensures.honest
 
-pub returns-clause-puts_to_each : goal.returns-clause-puts_to_each
-returns-clause-puts_to_each g c = λ to within.
-    met_then c.args.self.now.here c.take_all.new.self.here _ _ _ c.take_all.ensures.same_rank.here c.take_all.ensures.post_took c.put_all.ensures.post_stands
-    to _ (c.in_ok-put.ensures.none_or_full to (omega (arith, within, ap (λ (l : Shape). l.ranks) c.take_all.ensures.same_rank.layout)))
+pub returns-clause-keeps : goal.returns-clause-keeps
+returns-clause-keeps g c =
+    puts_then c.args.self.now c.take_all.new.self (same_rank c.args.self.now c.take_all.new.self c.take_all.ensures.rank) _ _ _ c.take_all.ensures.keeps c.put_all.ensures.keeps c.put_all.ensures.honest
 
-pub returns-clause-full : goal.returns-clause-full
-returns-clause-full g c =
-    full_then c.args.self.now.here c.take_all.new.self.here _ _ _ c.take_all.ensures.same_rank.here c.take_all.ensures.post_took c.put_all.ensures.post_stands
-    _ _ (ap (λ (l : Shape). l.ranks) c.take_all.ensures.same_rank.layout) _ _ c.in_ok-put.ensures.full
+pub returns-clause-ended : goal.returns-clause-ended
+returns-clause-ended g c =
+    let apply = g.H.Handler.apply in
+    let told = g.P.Post.told in
+    let old = c.args.self.now in
+    let mid = c.take_all.new.self in
+    let new = c.put_all.new.self in
+    let a = told c.args.post.now in
+    let b = told c.take_all.new.post in
+    let d = told c.put_all.new.post in
+    let same = same_rank old mid c.take_all.ensures.rank in
+    let takes = c.take_all.ensures.keeps in
+    let has = c.in_ok-took.ensures.took in
+    let put = c.in_ok-put.ensures.put in
+    let puts = c.put_all.ensures.keeps in
+    let ranks = ap (λ (l : Shape). l.ranks) same.layout in
+    let P : ℕ → Type 0 = λ h. PutOut mid new (b.log h) (d.log h) put.placed in
+    record {
+      turned = turned apply old mid new _ _ _ c.in_ok-took.took has.taken put.placed (subst P same.here put.out) _ refl put.count;
+      belongs = c.put_all.ensures.belongs;
+      takes_from_each = λ from within. looked_then old.here mid.here a b d same.here puts.misses put.placed put.out.log put.out.puts from (has.takes_from_each from within);
+      puts_to_each = λ to within. met_then old.here mid.here a b d same.here takes.fulls takes.work.same.serves to new.held (put.none_or_full to (omega (arith, within, ranks)));
+      full = full_then old.here mid.here a b d same.here takes.fulls takes.work.same.serves old.layout.ranks mid.layout.ranks ranks new.held _ put.first_full;
+      stops = λ rank. puts.stops rank ∙ takes.work.stops rank;
+      halts = puts.halts ∙ takes.work.halts;
+    }

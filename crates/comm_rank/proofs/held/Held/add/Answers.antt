@@ -1,8 +1,10 @@
 use Rattle.std.proofs.Common.{◌≡◌, [], ◌∷◌, ◌++◌, length, map, ap, ◌∙◌, sym, subst}
 use Rattle.std.specs.List.{AllByRecursion}
 use Rattle.msg_codec.specs.Letter.{letter_of}
+use Rattle.world_core.specs.Log.{letters_of}
 use Rattle.world_core.proofs.Lists.{all_append}
-use Rattle.comm_rank.specs.Held.{AreHeld, Gains, IsHeldFor, Stored, held_for, holding}
+use Rattle.comm_rank.specs.Held.{Gains, held_for}
+use Rattle.comm_rank.specs.Store.{AreHeld, IsHeldFor, Stored, holding}
 use Rattle.comm_rank.proofs.Holding.{gains, one_changed}
 use Rattle.comm_rank.proofs.Queues.{either, held_now, held_by, on_err, on_ok, read_at, same_at, write_at}
 use Rattle.comm_rank.proofs.held.Held.add.Goals as goal
@@ -29,7 +31,7 @@ returns-clause-gains c =
     let l = letter_of c.args.letter in
     let same : map (λ queue. queue.letters) c.self.inside.queues.items ≡ lists = ap (λ (s : Stored). s.lists) c.self.view_is in
     let held : AreHeld (length lists) lists = held_now c.self.inside.ranks _ lists same c.self.invariant in
-    on_ok c.push-2.result _ _ (λ h. subst (λ now. Gains lists now (l ∷ [])) (sym h) (gains (length lists) lists l held c.requires.within c.requires.data)) (returns-clause-ok c)
+    on_ok c.push-2.result _ _ (λ h. subst (λ now. Gains (letters_of lists) (letters_of now) (l ∷ [])) (sym h) (gains (length lists) lists l held c.requires.within c.requires.data)) (returns-clause-ok c)
 
 pub invariant_of-self : goal.invariant_of-self
 invariant_of-self c =

@@ -1,5 +1,5 @@
 use Rattle.std.proofs.Common.{ap, subst}
-use Rattle.comm_rank.specs.Held.{Stored, AreHeld}
+use Rattle.comm_rank.specs.Store.{Stored, AreHeld}
 use Rattle.comm_rank.proofs.Holding.{apart}
 use Rattle.comm_rank.proofs.held.Held.batches_for.Goals as goal
 

@@ -1,6 +1,6 @@
 use Rattle.std.proofs.Common.{◌≡◌, [], map, replicate, ap, ◌∙◌, sym, subst}
 use Rattle.std.proofs.Math.Nat.{le_antisymm}
-use Rattle.comm_rank.specs.Held.{AreHeld}
+use Rattle.comm_rank.specs.Store.{AreHeld}
 use Rattle.comm_rank.proofs.Holding.{nothing_held}
 use Rattle.comm_rank.proofs.held.Held.new.Goals as goal
 

@@ -1,6 +1,7 @@
 use Rattle.std.proofs.Common.{◌≡◌, ◌<◌, [], length, drop, map, set, ap, ◌∙◌, sym, subst, arith}
 use Rattle.std.proofs.lemmas.List.{get_or-set_same, length-map}
-use Rattle.comm_rank.specs.Held.{AreHeld, IsHeldFor, Loses, Stored, held_for}
+use Rattle.comm_rank.specs.Held.{held_for}
+use Rattle.comm_rank.specs.Store.{AreHeld, IsHeldFor, Loses, Stored}
 use Rattle.comm_rank.proofs.Holding.{apart, one_changed}
 use Rattle.comm_rank.proofs.Queues.{all_rest, held_now, held_by, if_some, number_at, on_some, out_first, out_loses, out_one, read_at, write_at}
 use Rattle.comm_rank.proofs.held.Held.next_out.Goals as goal

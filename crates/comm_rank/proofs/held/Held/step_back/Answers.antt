@@ -2,7 +2,8 @@ use Rattle.std.proofs.Common.{◌≡◌, List, ◌++◌, length, map, set, ap, �
 use Rattle.std.specs.List.{AllByRecursion}
 use Rattle.msg_codec.specs.declared.letter.Letter.{Letter}
 use Rattle.world_core.proofs.Lists.{all_append}
-use Rattle.comm_rank.specs.Held.{Stored, AreHeld, IsHeldFor, held_for}
+use Rattle.comm_rank.specs.Held.{held_for}
+use Rattle.comm_rank.specs.Store.{Stored, AreHeld, IsHeldFor}
 use Rattle.comm_rank.proofs.Holding.{apart, one_changed}
 use Rattle.comm_rank.proofs.Queues.{held_now, held_by, read_at, write_at}
 use Rattle.comm_rank.proofs.held.Held.step_back.Goals as goal

@@ -1,5 +1,5 @@
 use Rattle.std.proofs.Common.{◌≡◌, ap, ◌∙◌, drop, arith}
-use Rattle.comm_rank.specs.Held.{Queued}
+use Rattle.comm_rank.specs.Store.{Queued}
 use Rattle.comm_rank.proofs.Singles.{joined, drop-joined, popped}
 use Rattle.comm_rank.proofs.held.Queue.pop.Goals as goal
 

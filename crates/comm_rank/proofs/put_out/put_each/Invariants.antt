@@ -1,9 +1,9 @@
 use Rattle.std.proofs.Common.{◌≡◌, ◌≤◌, ◌<◌, ◌-◌, ◌^◌, ℕ, List, length, min}
 use Rattle.world_core.specs.declared.entry.Entry.{Entry}
-use Rattle.comm_rank.specs.Puts.{Moved, NoneOrFull}
-use Rattle.comm_rank.specs.Turns.{FirstFull}
+use Rattle.comm_rank.specs.Moves.{Moved}
+use Rattle.comm_rank.specs.Turns.{FirstFull, NoneOrFull}
 use Rattle.comm_rank.proofs.Each.{Below}
-use Rattle.comm_rank.proofs.turn.put_each.Given as goal
+use Rattle.comm_rank.proofs.put_out.put_each.Given as goal
 
 -- what is held for the first ranks moved, as far as their links weren't full
 abbrev pub invariant-loop-to : goal.invariant-loop-to

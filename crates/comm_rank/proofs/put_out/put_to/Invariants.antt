@@ -1,9 +1,10 @@
 use Rattle.std.proofs.Common.{◌≡◌, ◌+◌, List, length}
 use Rattle.world_core.specs.Post.{SameFulls}
 use Rattle.world_core.specs.declared.entry.Entry.{Entry}
-use Rattle.comm_rank.specs.Held.{AreApart, OthersStand, held_for}
-use Rattle.comm_rank.specs.Puts.{Moved}
-use Rattle.comm_rank.proofs.turn.put_to.Given as goal
+use Rattle.comm_rank.specs.Held.{held_for}
+use Rattle.comm_rank.specs.Moves.{Moved}
+use Rattle.comm_rank.specs.Store.{AreApart, OthersUnchanged}
+use Rattle.comm_rank.proofs.put_out.put_to.Given as goal
 
 -- the first letters for the rank moved into the log
 abbrev pub invariant-loop-k : goal.invariant-loop-k
@@ -13,6 +14,6 @@ invariant-loop-k g l = record {
   count : length placed ≡ l.k;
   left : length (held_for l.held.lists l.to) + l.k ≡ length (held_for l.fn.held.lists l.to);
   fulls : SameFulls (g.P.Post.told l.fn.post) (g.P.Post.told l.post);
-  others : OthersStand l.to l.fn.held.lists l.held.lists;
+  others : OthersUnchanged l.to l.fn.held.lists l.held.lists;
   apart : AreApart l.held.lists l.to;
 }

@@ -1,0 +1,83 @@
+-- What a take from one rank is to a rank that belongs to the post.
+use Rattle.std.proofs.Common.{◌≡◌, ℕ, ◌+◌, ◌<◌, ◌≤◌, ◌^◌, List, [], length, ap, sym, ◌∙◌, subst, inl}
+use Rattle.std.specs.List.{AllByRecursion}
+use Rattle.msg_codec.specs.declared.letter.Letter.{Letter}
+use Rattle.ygm_route.specs.declared.scheme.Scheme.TheVariants.{Direct}
+use Rattle.world_core.specs.Post.{CountsNeverFall, TakeKeeps, Told, TookBatch, TookNone}
+use Rattle.world_core.specs.Rules.{IsHonest}
+use Rattle.world_core.proofs.Posts.NeverFall.{after_took, after_took_none}
+use Rattle.comm_rank.specs.declared.fault.CommFault.{CommFault}
+use Rattle.comm_rank.specs.Agrees.{Agrees, Belongs}
+use Rattle.comm_rank.specs.Fold.{Applies}
+use Rattle.comm_rank.specs.Rank.{IsSameRank, Rank, local_of}
+use Rattle.comm_rank.specs.Running.{HasRunAll, HasTakenFrom, IsFor, StuckIn, TakesKeep, WasCutFrom}
+use Rattle.comm_rank.proofs.Same.{belongs_still}
+use Rattle.comm_rank.proofs.Taking.{Arrival, agrees_now, arrival, cut_from, few_run, honest_took, link_stands, looked_none, not_looked_none, same_log, taken_here, taken_other, took_from, took_none}
+
+module _ {C : Type 0} (apply : Applies C) (start : C → C) (old : Rank C) (there from : ℕ) (before after : Told) (e : there ≡ old.here) (belongs : Belongs apply start old before) (keeps : TakeKeeps there before after) where
+  takes_keep : CountsNeverFall before after → (IsHonest (local_of old (before.log old.here)) → IsHonest (local_of old (after.log old.here))) → TakesKeep old before after
+  takes_keep counts honest = record {
+    work = record { same = same_log there old.here before after e keeps.same; honest = honest; stops = keeps.stops; halts = keeps.halts; counts = counts };
+    fulls = keeps.fulls;
+  }
+
+  -- ---- nothing was there
+
+  module _ (none : TookNone there from before after) where
+    log_same : after.log old.here ≡ before.log old.here
+    log_same = let P : ℕ → Type 0 = λ h. after.log h ≡ before.log h in subst P e none.log
+
+    pub none_keeps : TakesKeep old before after
+    none_keeps =
+        let P : List _ → Type 0 = λ xs. IsHonest (local_of old xs) in
+        takes_keep (after_took_none there from before after keeps none) (λ h. subst P (sym log_same) h)
+
+    pub none_taken : HasTakenFrom from apply start old old before after 0
+    none_taken = record {
+      taken = took_none from apply old (before.log old.here) (after.log old.here) log_same belongs.agrees.nothing_waits;
+      belongs = belongs_still apply start old there before after keeps.same log_same belongs;
+      looked = looked_none there old.here from before after e none.misses none.sees_none;
+      others = λ other ne. not_looked_none there old.here other before after e none.log keeps.same (none.misses.others other ne);
+    }
+
+  -- ---- a batch was there
+
+  module _ (batch : List Letter) (took : TookBatch there from batch before after) (direct : old.scheme ≡ Direct) (sender : from < old.layout.ranks) where
+    arrived : Arrival old before after from batch
+    arrived = arrival apply start old there before after from batch e keeps.same belongs direct sender took
+
+    pub batch_for : AllByRecursion (IsFor old.here) batch
+    batch_for = arrived.all
+
+    pub batch_few : old.run_count + length batch ≤ 2 ^ 62
+    batch_few = few_run apply start old before after from batch arrived belongs.agrees
+
+    pub batch_keeps : TakesKeep old before after
+    batch_keeps = takes_keep (after_took there from batch before after keeps took) (honest_took old (before.log old.here) (after.log old.here) from batch arrived.gained)
+
+    module _ (new : Rank C) (same : IsSameRank old new) where
+      pub batch_cut : (fault : CommFault) → StuckIn apply old new batch fault → WasCutFrom from apply old new (before.log old.here) (after.log old.here) fault
+      batch_cut = cut_from apply old new (before.log old.here) (after.log old.here) from batch same arrived.gained arrived.all belongs.agrees.nothing_waits
+
+      pub batch_taken : ((c : C) (here ranks : ℕ) (l : Letter) → start (apply c here ranks l).0 ≡ start c) → new.waiting ≡ [] → HasRunAll apply old new batch → HasTakenFrom from apply start old new before after 1
+      batch_taken started none ran =
+          let log = before.log old.here in
+          let now = after.log old.here in
+          let agrees : Agrees apply start new now = agrees_now apply old new log now from batch same arrived.gained arrived.all start started belongs.agrees none ran arrived.modest in
+          let P : ℕ → Type 0 = λ h. Agrees apply start new (after.log h) in
+          record {
+            taken = took_from apply old new log now from batch same arrived.gained arrived.all belongs.agrees.nothing_waits none ran;
+            belongs = record {
+              serves = ap after.serves same.here ∙ keeps.same.serves old.here ∙ belongs.serves;
+              layout = keeps.same.layout ∙ belongs.layout ∙ sym same.layout;
+              scheme = keeps.same.scheme ∙ belongs.scheme ∙ sym same.scheme;
+              agrees = subst P (sym same.here) agrees;
+            };
+            looked = inl (taken_here from batch log now arrived.gained);
+            others = λ other ne. record {
+              taken = taken_other from other batch log now arrived.gained ne;
+              misses = took.misses other;
+              serves = keeps.same.serves other;
+              link = link_stands old.here from other batch before after arrived.gained ne (same_log there old.here before after e keeps.same);
+            };
+          }

@@ -1,0 +1,60 @@
+use Rattle.std.proofs.Common.{IfErr, [], ◌++◌, refl, ◌∙◌, arith, length-append, rules}
+use Rattle.std.proofs.lemmas.Result.{IfErr-weaker}
+use Rattle.comm_rank.specs.Moves.{PutsFailed}
+use Rattle.comm_rank.proofs.Puts.{count_of_none, count_of_one, found_full_at_last, keeps_none, moved_none, moved_then, none_remains, others_then, puts_one}
+use Rattle.comm_rank.proofs.put_out.put_to.Goals as goal
+
+pub loop-k-init : goal.loop-k-init
+loop-k-init g c = record {
+  placed = [];
+  moved = moved_none c.args.here _ _ _ _ refl refl (keeps_none c.args.here _);
+  count = refl;
+  left = omega arith;
+  fulls = λ rank. refl;
+  others = record { all = refl; others = λ other differs. refl };
+  apart = c.batches_for-most.ensures.apart;
+}
+
+pub returns-in_err-put_first-clause-failed : goal.returns-in_err-put_first-clause-failed
+returns-in_err-put_first-clause-failed g c =
+    let told = g.P.Post.told in
+    let i = c.loop-k.invariant in
+    let there : IfErr c.from_residual.result (PutsFailed c.args.here c.loop-k.held.lists c.put_first.new.held.lists (told c.loop-k.post) (told c.put_first.new.post)) = search rules in
+    IfErr-weaker c.from_residual.result _ _
+    (λ fault f. record { placed = i.placed ++ f.placed; moved = moved_then c.args.here _ _ _ _ _ _ i.placed f.placed i.moved f.moved; no_memory = f.no_memory }) there
+
+pub returns-then-not-branch-clause-put : goal.returns-then-not-branch-clause-put
+returns-then-not-branch-clause-put g c =
+    let i = c.loop-k.invariant in
+    let p = c.in_ok-put_first.ensures.put in
+    record {
+      placed = i.placed ++ p.placed;
+      moved = moved_then c.args.here _ _ _ _ _ _ i.placed p.placed i.moved p.moved;
+      count = omega (arith, i.count, length-append i.placed p.placed, p.count, count_of_none _ c.if-not-branch.true);
+      until = found_full_at_last c.in_ok-put_first.field-0 c.args.here c.args.to _ _ _ _ _ c.if-not-branch.true i.moved.keeps.same.serves i.fulls p.one;
+    }
+
+pub loop-k-preserved : goal.loop-k-preserved
+loop-k-preserved g c =
+    let i = c.loop-k.invariant in
+    let p = c.in_ok-put_first.ensures.put in
+    let one = puts_one _ c.args.here c.args.to c.loop-k.held.lists c.put_first.new.held.lists _ _ c.if-not-branch.false p.one in
+    record {
+      placed = i.placed ++ p.placed;
+      moved = moved_then c.args.here _ _ _ _ _ _ i.placed p.placed i.moved p.moved;
+      count = omega (arith, i.count, length-append i.placed p.placed, p.count, count_of_one _ c.if-not-branch.false);
+      left = omega (arith, i.left, one.0);
+      fulls = λ rank. one.1 rank ∙ i.fulls rank;
+      others = others_then c.args.to _ _ _ i.others c.put_first.ensures.others;
+      apart = c.put_first.ensures.apart;
+    }
+
+pub returns-clause-put : goal.returns-clause-put
+returns-clause-put g c =
+    let i = c.loop-k.invariant in
+    record {
+      placed = i.placed;
+      moved = i.moved;
+      count = omega (arith, i.count, c.loop-k-test.false, c.loop-k.auto.k-end);
+      until = (none_remains _ (omega (arith, i.left, c.loop-k-test.false, c.batches_for-most.ensures.count)), i.fulls);
+    }

@@ -1,0 +1,111 @@
+-- What a rank does as it puts what it holds. Only private functions cite this.
+use Rattle.std.specs.Prelude.{◌≡◌, ◌≢◌, ℕ, ◌+◌, ◌-◌, ◌^◌, ◌<◌, ◌≤◌, Bool, true, false, IsTrue, Option, List, [], ◌++◌, length, min}
+use Rattle.std.specs.List.{AllByRecursion}
+use Rattle.msg_codec.specs.declared.letter.Letter.{Letter}
+use Rattle.ygm_route.specs.declared.scheme.Scheme.TheVariants.{Direct}
+use Rattle.world_core.specs.declared.entry.Entry.{Entry}
+use Rattle.world_core.specs.Log.{letters_of}
+use Rattle.world_core.specs.Pairs.{of_pair, of_sender, own, sent}
+use Rattle.world_core.specs.Post.{CountsNeverFall, FullsRise, SameFulls, SameMisses, SamePost, SameStops, Told, local_at}
+use Rattle.world_core.specs.Rules.{IsHonest}
+use Rattle.comm_rank.specs.declared.fault.CommFault.{CommFault}
+use Rattle.comm_rank.specs.declared.fault.CommFault.TheVariants.{NoMemory}
+use Rattle.comm_rank.specs.Held.{NoneClosed, held_for}
+use Rattle.comm_rank.specs.Rank.{Rank, ran_at, sent_to}
+use Rattle.comm_rank.specs.Turns.{FirstFull, IsPut, MetFull, NoneOrFull}
+
+-- A rank may put what it holds: it is a rank of the post's world, where letters go straight to their destination;
+-- the letters that it holds are its own, and with them it has sent no more than a rank may.
+pub record MayPut (here : ℕ) (held : List (List Letter)) (post : Told) : Type 0 where
+  pub all : length held ≡ post.layout.ranks
+  pub within : here < post.layout.ranks
+  pub serves : IsTrue (post.serves here)
+  pub direct : post.scheme ≡ Direct
+  pub own_alone : (from to : ℕ) → from ≢ here → of_pair from to (letters_of held) ≡ []
+  pub few : length (own here (post.log here)) + length (of_sender here (letters_of held)) ≤ 2 ^ 56
+
+-- what puts leave unchanged at the post
+pub record MoveKeeps (here : ℕ) (old new : Told) : Type 0 where
+  pub same : SamePost here old new
+  pub stops : SameStops old new
+  pub misses : SameMisses old new
+  pub halts : new.halts ≡ old.halts
+  pub counts : CountsNeverFall old new
+
+-- Letters moved from what a rank holds into its log, which gained honest puts alone. What has been sent to each rank is
+-- unchanged, and so is its count.
+pub record Moved (here : ℕ) (before after : List (List Letter)) (old new : Told) (placed : List Entry) : Type 0 where
+  pub log : new.log here ≡ old.log here ++ placed
+  pub puts : AllByRecursion IsPut placed
+  pub honest : IsHonest (local_at old here) → IsHonest (local_at new here)
+  pub sent_unchanged : (to : ℕ) → sent here to (new.log here) (letters_of after) ≡ sent here to (old.log here) (letters_of before)
+  pub count_unchanged : length (own here (new.log here)) + length (of_sender here (letters_of after)) ≡ length (own here (old.log here)) + length (of_sender here (letters_of before))
+  pub none_more : (from to : ℕ) → of_pair from to (letters_of before) ≡ [] → of_pair from to (letters_of after) ≡ []
+  pub all : length after ≡ length before
+  pub keeps : MoveKeeps here old new
+
+-- puts that lack of memory ended
+pub record PutsFailed (here : ℕ) (before after : List (List Letter)) (old new : Told) (fault : CommFault) : Type 0 where
+  pub placed : List Entry
+  pub moved : Moved here before after old new placed
+  pub no_memory : fault ≡ NoMemory
+
+-- ---- one put to a rank
+
+-- the first letter for it left, or the link was full
+abbrev pub PutsOne : Bool → ℕ → ℕ → List (List Letter) → List (List Letter) → Told → Told → Type 0
+PutsOne true here to before after old new = (length (held_for before to) ≡ length (held_for after to) + 1) × SameFulls old new
+PutsOne false here to before after old new = MetFull here to after old new × FullsRise to old new
+
+abbrev pub put_count : Bool → ℕ
+put_count true = 1
+put_count false = 0
+
+pub record HasPutFirst (here to : ℕ) (before after : List (List Letter)) (old new : Told) (put : Bool) : Type 0 where
+  pub placed : List Entry
+  pub moved : Moved here before after old new placed
+  pub count : length placed ≡ put_count put
+  pub one : PutsOne put here to before after old new
+
+-- ---- puts to one rank
+
+-- the link is full, or no closed batch is held for it
+abbrev pub PutUntil : Bool → ℕ → ℕ → List (List Letter) → Told → Told → Type 0
+PutUntil true here to held old new = MetFull here to held old new × FullsRise to old new
+PutUntil false here to held old new = NoneClosed held to × SameFulls old new
+
+pub record HasPutTo (here to : ℕ) (before after : List (List Letter)) (old new : Told) (put : ℕ) (full : Bool) : Type 0 where
+  pub placed : List Entry
+  pub moved : Moved here before after old new placed
+  pub count : put ≡ length placed
+  pub until : PutUntil full here to after old new
+
+-- ---- puts to all ranks
+
+pub record HasPutEach (here ranks : ℕ) (before after : List (List Letter)) (old new : Told) (put : ℕ) (full : Option ℕ) : Type 0 where
+  pub placed : List Entry
+  pub moved : Moved here before after old new placed
+  pub count : put ≡ min (length placed) (2 ^ 64 - 1)
+  pub none_or_full : (to : ℕ) → to < ranks → NoneOrFull here to after old new
+  pub first_full : FirstFull ranks after old new full
+
+-- Puts of a rank: its log gained puts alone. What it has sent and what ran are unchanged, and so is all of it but what it
+-- holds.
+pub record PutOut {C : Type 0} (old new : Rank C) (before after placed : List Entry) : Type 0 where
+  pub log : after ≡ before ++ placed
+  pub puts : AllByRecursion IsPut placed
+  pub rank : new ≡ record old { held = new.held }
+  pub sent : (to : ℕ) → sent_to new after to ≡ sent_to old before to
+  pub ran : ran_at new after ≡ ran_at old before
+
+pub record HasPutAll {C : Type 0} (old new : Rank C) (before after : Told) (put : ℕ) (full : Option ℕ) : Type 0 where
+  pub placed : List Entry
+  pub out : PutOut old new (before.log old.here) (after.log old.here) placed
+  pub count : put ≡ min (length placed) (2 ^ 64 - 1)
+  pub none_or_full : (to : ℕ) → to < old.layout.ranks → NoneOrFull old.here to new.held before after
+  pub first_full : FirstFull old.layout.ranks new.held before after full
+
+pub record PutAllFailed {C : Type 0} (old new : Rank C) (before after : Told) (fault : CommFault) : Type 0 where
+  pub placed : List Entry
+  pub out : PutOut old new (before.log old.here) (after.log old.here) placed
+  pub no_memory : fault ≡ NoMemory

@@ -1,0 +1,111 @@
+//! What a rank holds goes into its links.
+ghost use Rattle.std.specs.Prelude.{◌≡◌, ◌<◌, ◌≤◌, ◌^◌, ℕ, length, IfErr, IfOk};
+ghost use Rattle.world_core.specs.Rules.{IsHonest};
+ghost use Rattle.comm_rank.specs.Agrees.{Belongs};
+ghost use Rattle.comm_rank.specs.Held.{held_for};
+ghost use Rattle.comm_rank.specs.Moves.{HasPutAll, HasPutEach, HasPutFirst, HasPutTo, MayPut, MoveKeeps, PutAllFailed, PutsFailed};
+ghost use Rattle.comm_rank.specs.Rank.{local_of};
+ghost use Rattle.comm_rank.specs.Store.{AreApart, OthersUnchanged};
+
+use crate::held::Held;
+use crate::{Comm, CommFault, Handler};
+use world_core::{Post, PutBack};
+
+/// What a turn did for one destination.
+#[derive(Clone, Copy)]
+struct Placed {
+    put: u64,
+    full: bool,
+}
+
+/// Puts the first letter that is held for a destination. It returns whether the link wasn't full.
+fn put_first<P: Post>(held: &mut Held, post: &mut P, here: u32, to: u32) -> Result<bool, CommFault>
+    requires may_put { MayPut here held.old.lists (P.told post.old) }
+    requires within { to < length held.old.lists }
+    requires some { 0 < length (held_for held.old.lists to) }
+    ensures put { IfOk result (HasPutFirst here to held.old.lists held.new.lists (P.told post.old) (P.told post.new)) }
+    ensures failed { IfErr result (PutsFailed here held.old.lists held.new.lists (P.told post.old) (P.told post.new)) }
+    ensures others { OthersUnchanged to held.old.lists held.new.lists }
+    ensures apart { AreApart held.new.lists to }
+{
+    let Some(batch) = held.next_out(to) else {
+        unreachable!();
+    };
+    match post.put(here, to, batch) {
+        Ok(()) => Ok(true),
+        Err(PutBack::Full(batch)) => {
+            held.step_back(to, batch);
+            Ok(false)
+        }
+        Err(PutBack::NoMemory(batch)) => {
+            held.step_back(to, batch);
+            Err(CommFault::NoMemory)
+        }
+    }
+}
+
+/// Puts what is held for a destination, until nothing remains or the link is full.
+fn put_to<P: Post>(held: &mut Held, post: &mut P, here: u32, to: u32) -> Result<Placed, CommFault>
+    requires may_put { MayPut here held.old.lists (P.told post.old) }
+    requires within { to < length held.old.lists }
+    ensures put { IfOk result (λ what. HasPutTo here to held.old.lists held.new.lists (P.told post.old) (P.told post.new) what.put what.full) }
+    ensures failed { IfErr result (PutsFailed here held.old.lists held.new.lists (P.told post.old) (P.told post.new)) }
+    ensures others { OthersUnchanged to held.old.lists held.new.lists }
+{
+    let most = held.batches_for(to);
+    for k in 0..most {
+        if !put_first(held, post, here, to)? {
+            return Ok(Placed {
+                put: k as u64,
+                full: true,
+            });
+        }
+    }
+    Ok(Placed {
+        put: most as u64,
+        full: false,
+    })
+}
+
+/// Puts what is held, destination by destination. It returns how many batches, and the lowest rank to which the
+/// link was full.
+fn put_each<P: Post>(
+    held: &mut Held,
+    post: &mut P,
+    here: u32,
+    ranks: u32,
+) -> Result<(u64, Option<u32>), CommFault>
+    requires may_put { MayPut here held.old.lists (P.told post.old) }
+    requires ranks { ranks ≡ length held.old.lists }
+    ensures put { IfOk result (λ what. HasPutEach here ranks held.old.lists held.new.lists (P.told post.old) (P.told post.new) what.0 what.1) }
+    ensures failed { IfErr result (PutsFailed here held.old.lists held.new.lists (P.told post.old) (P.told post.new)) }
+{
+    let mut put: u64 = 0;
+    let mut full = None;
+    for to in 0..ranks {
+        let placed = put_to(held, post, here, to)?;
+        put = put.saturating_add(placed.put);
+        if placed.full {
+            full = full.or(Some(to));
+        }
+    }
+    Ok((put, full))
+}
+
+impl<H: Handler> Comm<H> {
+    /// Puts what the rank holds, destination by destination. It returns how many batches, and the lowest rank
+    /// to which the link was full.
+    pub(crate) fn put_all<P: Post>(&mut self, post: &mut P) -> Result<(u64, Option<u32>), CommFault>
+        requires belongs { Belongs H.apply H.start self.old (P.told post.old) }
+        ensures put { IfOk result (λ what. HasPutAll self.old self.new (P.told post.old) (P.told post.new) what.0 what.1) }
+        ensures failed { IfErr result (PutAllFailed self.old self.new (P.told post.old) (P.told post.new)) }
+        ensures belongs { Belongs H.apply H.start self.new (P.told post.new) }
+        ensures honest { IsHonest (local_of self.old ((P.told post.old).log self.old.here)) → IsHonest (local_of self.old ((P.told post.new).log self.old.here)) }
+        ensures keeps { MoveKeeps self.old.here (P.told post.old) (P.told post.new) }
+    {
+        // No put is one letter too many.
+        let within = self.sent.count() <= self.limits.letters;
+        prove!(within);
+        put_each(&mut self.held, post, self.here, self.layout.ranks())
+    }
+}
