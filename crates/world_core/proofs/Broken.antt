@@ -1,10 +1,11 @@
 -- What a put that breaks no rule has.
-use Rattle.std.proofs.Common.{◌≡◌, ℕ, ◌<◌, false, None, List, [], ◌∷◌, ltb-true}
-use Rattle.std.specs.List.{AllByRecursion}
+use Rattle.std.proofs.Common.{◌≡◌, ℕ, ◌<◌, Bool, false, None, List, [], ◌∷◌, ltb-true}
 use Rattle.std.proofs.lemmas.Bool.{not-false}
 use Rattle.msg_codec.specs.declared.letter.Letter.{Letter}
+use Rattle.world_core.specs.declared.why.Why.{Why}
+use Rattle.world_core.specs.declared.why.Why.TheVariants.{NoSuchRank, EmptyBatch, BadTag, WrongHop, NotHeld, TooManySent}
 use Rattle.world_core.specs.Local.{Local}
-use Rattle.world_core.specs.Rules.{Rule, rules, Deed, first_broken, first_broken_of, no_such_rank, empty_batch, some_letter_after, bad_tag, wrong_hop, not_held, too_many_sent}
+use Rattle.world_core.specs.Rules.{Rule, rule, rules, Deed, first_broken, first_broken_of, no_such_rank, empty_batch, some_letter, some_letter_after, bad_tag, wrong_hop, not_held, too_many_sent}
 use Rattle.world_core.specs.Rules.Deed.{Puts}
 use Rattle.world_core.proofs.Lists.{cond_none, or_false_first, or_false_second}
 
@@ -16,18 +17,32 @@ pub record Unbroken (me : Local) (to : ℕ) (letters : List Letter) : Type 0 whe
   pub held : some_letter_after not_held [] letters me to ≡ false
   pub few : some_letter_after too_many_sent [] letters me to ≡ false
 
--- no rule of a list is broken where none is the first
-none_broken : (list : List Rule) (me : Local) (deed : Deed) → first_broken_of list me deed ≡ None → AllByRecursion (λ r. r.breaks me deed ≡ false) list
-none_broken [] me deed h = tt
-none_broken (r ∷ rest) me deed h =
-    let here = cond_none (r.breaks me deed) r.why (first_broken_of rest me deed) h in
-    (here.0, none_broken rest me deed here.1)
+-- a rule of a table, wherever it stands
+data IsIn : Rule → List Rule → Type 0 where
+  first : {r : Rule} {table : List Rule} → IsIn r (r ∷ table)
+  later : {r other : Rule} {table : List Rule} → IsIn r table → IsIn r (other ∷ table)
+
+ruleset rows = (first, later)
+
+-- A deed that breaks no rule of a table doesn't break this one.
+not_broken : (me : Local) (deed : Deed) (r : Rule) (table : List Rule) → IsIn r table → first_broken_of table me deed ≡ None → r.breaks me deed ≡ false
+not_broken me deed r [] at h = elim at [ ]
+not_broken me deed _ (r ∷ table) first h = (cond_none (r.breaks me deed) r.why (first_broken_of table me deed) h).0
+not_broken me deed r (other ∷ table) (later at) h = not_broken me deed r table at (cond_none (other.breaks me deed) other.why (first_broken_of table me deed) h).1
 
 pub unbroken : (me : Local) (to : ℕ) (letters : List Letter) → first_broken me (Puts to letters) ≡ None → Unbroken me to letters
 unfolding first_broken
 unbroken me to letters h =
-    let all : AllByRecursion (λ r. r.breaks me (Puts to letters) ≡ false) rules = none_broken rules me (Puts to letters) h in
-    record { ranks = all.0; some = all.1.1.0; tags = all.1.1.1.0; hops = all.1.1.1.1.0; held = all.1.1.1.1.1.0; few = all.1.1.1.1.1.1.0 }
+    let ok : (why : Why) (breaks : Local → Deed → Bool) → IsIn (rule why breaks) rules → breaks me (Puts to letters) ≡ false =
+    λ why breaks at. not_broken me (Puts to letters) (rule why breaks) rules at h in
+    record {
+      ranks = ok NoSuchRank no_such_rank (search rows depth 20);
+      some = ok EmptyBatch empty_batch (search rows depth 20);
+      tags = ok BadTag (some_letter bad_tag) (search rows depth 20);
+      hops = ok WrongHop (some_letter wrong_hop) (search rows depth 20);
+      held = ok NotHeld (some_letter not_held) (search rows depth 20);
+      few = ok TooManySent (some_letter too_many_sent) (search rows depth 20);
+    }
 
 -- ---- of the batch
 
