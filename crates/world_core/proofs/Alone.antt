@@ -1,5 +1,5 @@
 -- What an honest log has, whatever the other ranks do.
-use Rattle.std.proofs.Common.{◌≡◌, ℕ, zero, suc, ◌≤◌, ◌<◌, ◌^◌, Bool, true, false, nat_eq, eqb-true, ne_eqb, Some, None, List, [], ◌∷◌, ◌++◌, length, take, slice_get, get_or, refl, sym, ap, ◌∙◌, subst, append-nil, inl, inr, if◌then◌else◌, arith, add-one, length-append, le_of_lt}
+use Rattle.std.proofs.Common.{◌≡◌, ℕ, zero, suc, ◌≤◌, ◌<◌, Bool, true, false, nat_eq, eqb-true, ne_eqb, Some, None, List, [], ◌∷◌, ◌++◌, length, take, slice_get, get_or, refl, sym, ap, ◌∙◌, subst, append-nil, inl, inr, if◌then◌else◌, arith, add-one, length-append, le_of_lt}
 use Rattle.std.specs.List.{AllByRecursion}
 use Rattle.std.proofs.lemmas.Grind.{flat_map-append}
 use Rattle.msg_codec.specs.declared.letter.Letter.{Letter}
@@ -7,6 +7,7 @@ use Rattle.ygm_route.specs.declared.scheme.Scheme.{Scheme}
 use Rattle.ygm_route.specs.Layout.{Shape}
 use Rattle.world_core.specs.declared.entry.Entry.{Entry}
 use Rattle.world_core.specs.declared.entry.Entry.TheVariants.{Put, Took}
+use Rattle.world_core.specs.Limits.{most_letters}
 use Rattle.world_core.specs.Local.{Local}
 use Rattle.world_core.specs.Log.{batches_put, letters_of}
 use Rattle.world_core.specs.Pairs.{of_pair, own, pair_put, pair_taken}
@@ -26,7 +27,7 @@ use Rattle.std.proofs.lemmas.Option.{same_Some, slice_get-get_or, slice_get_with
 pub record Alone (me : Local) : Type 0 where
   pub carry : (to : ℕ) → AllByRecursion (IsSent me.layout me.scheme me.here to) (letters_of (batches_put to me.log))
   pub forward : (s d : ℕ) → IsThird me.layout s d me.here → IsPrefix (pair_put s d me.log) (pair_taken s d me.log)
-  pub few : length (own me.here me.log) ≤ 2 ^ 56
+  pub few : length (own me.here me.log) ≤ most_letters
   pub targets : (to : ℕ) → me.layout.ranks ≤ to → batches_put to me.log ≡ []
 
 pub slice_get_left : {X : Type 0} (xs ys : List X) (k : ℕ) → k < length xs → slice_get (xs ++ ys) k ≡ slice_get xs k

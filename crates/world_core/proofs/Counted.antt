@@ -1,8 +1,9 @@
 -- Logs of a sound world are modest.
-use Rattle.std.proofs.Common.{◌≡◌, ℕ, zero, suc, ◌+◌, ◌*◌, ◌^◌, ◌<◌, ◌≤◌, ◌&&◌, Bool, true, false, nat_lt, nat_eq, ltb-true, lt-ltb, eq-eqb, List, [], ◌∷◌, length, filter, cond, ◌⊎◌, suc-mul, zero-mul, refl, inl, inr, arith, le_trans}
+use Rattle.std.proofs.Common.{◌≡◌, ℕ, zero, suc, ◌+◌, ◌*◌, ◌<◌, ◌≤◌, ◌&&◌, Bool, true, false, nat_lt, nat_eq, ltb-true, lt-ltb, eq-eqb, List, [], ◌∷◌, length, filter, cond, ◌⊎◌, suc-mul, zero-mul, refl, inl, inr, arith, le_trans}
 use Rattle.std.specs.List.{AllByRecursion}
 use Rattle.std.proofs.lemmas.Bool.{cases_lt}
 use Rattle.msg_codec.specs.declared.letter.Letter.{Letter}
+use Rattle.world_core.specs.Limits.{most_arrived, most_letters}
 use Rattle.world_core.specs.Log.{letters_put, letters_taken}
 use Rattle.world_core.specs.Modest.{IsLawful, IsWorld}
 use Rattle.world_core.specs.Pairs.{is_data, is_of_pair, of_pair, of_sender, arrived, pair_put}
@@ -80,22 +81,22 @@ senders_below here most xs few (suc n) =
 
 module _ (world : Logs) (base : Base world) where
   -- a rank puts no more letters to one rank than it puts at all
-  pair-own : (s d : ℕ) → length (pair_put s d (log_of world s)) ≤ 2 ^ 56
+  pair-own : (s d : ℕ) → length (pair_put s d (log_of world s)) ≤ most_letters
   pair-own s d = le_trans (pair_of_sender s d (letters_put (log_of world s))) (alone world base s).few
 
-  few_of_pair : (here s : ℕ) → length (of_pair s here (letters_taken (log_of world here))) ≤ 2 ^ 56
+  few_of_pair : (here s : ℕ) → length (of_pair s here (letters_taken (log_of world here))) ≤ most_letters
   few_of_pair here s = le_trans (prefix_length _ _ (got_prefix world base s here)) (pair-own s here)
 
   lawful : (here : ℕ) → AllByRecursion (IsLawful (local world here)) (letters_taken (log_of world here))
   lawful here = all_taken (IsLawful (local world here)) (log_of world here)
       (λ a. all_weaker _ (IsLawful (local world here)) _ (λ l c. record { destination = lt-ltb _ _ c.lawful.to_within; sender = lt-ltb _ _ c.lawful.from_within; tag = c.lawful.tag }) (carried_taken world base a here))
 
-  few_arrived : (here : ℕ) → length (arrived here (log_of world here)) ≤ 2 ^ 62
+  few_arrived : (here : ℕ) → length (arrived here (log_of world here)) ≤ most_arrived
   few_arrived here =
       let all : AllByRecursion (λ l. (is_data l && nat_eq l.to here) ≡ true → from_below here world.layout.ranks l ≡ true) (letters_taken (log_of world here)) =
       all_weaker (IsLawful (local world here)) _ (letters_taken (log_of world here)) (λ l c h. rw (h, c.sender) refl) (lawful here) in
       let a : length (arrived here (log_of world here)) ≤ length (filter (from_below here world.layout.ranks) (letters_taken (log_of world here))) = fewer _ _ _ all in
-      let b : length (filter (from_below here world.layout.ranks) (letters_taken (log_of world here))) ≤ world.layout.ranks * 2 ^ 56 = senders_below here (2 ^ 56) (letters_taken (log_of world here)) (few_of_pair here) world.layout.ranks in
+      let b : length (filter (from_below here world.layout.ranks) (letters_taken (log_of world here))) ≤ world.layout.ranks * most_letters = senders_below here most_letters (letters_taken (log_of world here)) (few_of_pair here) world.layout.ranks in
       let c : world.layout.ranks ≤ 32 = base.laid_out.few_ranks in
       omega arith
 

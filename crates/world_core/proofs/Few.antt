@@ -1,5 +1,5 @@
 -- How many letters of a pair a log of a sound world can have.
-use Rattle.std.proofs.Common.{◌≡◌, ◌≢◌, ℕ, ◌^◌, ◌≤◌, ◌⊎◌, Bool, true, false, cond, List, [], ◌∷◌, length, filter, refl, sym, subst, inl, inr, arith, le_trans}
+use Rattle.std.proofs.Common.{◌≡◌, ◌≢◌, ℕ, ◌≤◌, ◌⊎◌, Bool, true, false, cond, List, [], ◌∷◌, length, filter, refl, sym, subst, inl, inr, arith, le_trans}
 use Rattle.std.specs.Bool.{IsTrue}
 use Rattle.std.specs.List.{AllByRecursion}
 use Rattle.std.proofs.lemmas.Bool.{cases_eq}
@@ -10,6 +10,7 @@ use Rattle.ygm_route.specs.Hop.{hop}
 use Rattle.ygm_route.specs.Path.{passes, crosses, path}
 use Rattle.ygm_route.proofs.PathLaws.{crosses_first_hop, crosses_hop, link_end, link_start}
 use Rattle.ygm_route.proofs.Standing.{standing, is_sender, is_destination, is_between as is_middle, is_first, is_second}
+use Rattle.world_core.specs.Limits.{most_letters}
 use Rattle.world_core.specs.Log.{letters_put}
 use Rattle.world_core.specs.Modest.{IsWorld}
 use Rattle.world_core.specs.Pairs.{is_of_pair, own, pair_put, pair_taken}
@@ -69,10 +70,10 @@ module _ (world : Logs) (w : IsWorld world) where
             (link_carries world (base_of world w) s d s f ranks first)
       ]
 
-  pub few_own : (rank : ℕ) → length (own rank (log_of world rank)) ≤ 2 ^ 56
+  pub few_own : (rank : ℕ) → length (own rank (log_of world rank)) ≤ most_letters
   few_own rank = (alone world (base_of world w) rank).few
 
-  few_of_sender : (s d : ℕ) → length (pair_put s d (log_of world s)) ≤ 2 ^ 56
+  few_of_sender : (s d : ℕ) → length (pair_put s d (log_of world s)) ≤ most_letters
   few_of_sender s d = le_trans (pair_of_sender s d (letters_put (log_of world s))) (few_own s)
 
   -- a rank that puts another rank's letter stands between
@@ -88,9 +89,9 @@ module _ (world : Logs) (w : IsWorld world) where
       let there : P s d = subst (λ y. P s y) pair.1 (subst (λ x. P x l.to) pair.0 here) in
       there other
 
-  pub few_of_pair : (rank s d : ℕ) → length (pair_put s d (log_of world rank)) ≤ 2 ^ 56
+  pub few_of_pair : (rank s d : ℕ) → length (pair_put s d (log_of world rank)) ≤ most_letters
   few_of_pair rank s d = elim (cases_eq s rank) [
-    | inl mine ↦ let P : ℕ → Type 0 = λ r. length (pair_put s d (log_of world r)) ≤ 2 ^ 56 in subst P mine (few_of_sender s d)
+    | inl mine ↦ let P : ℕ → Type 0 = λ r. length (pair_put s d (log_of world r)) ≤ most_letters in subst P mine (few_of_sender s d)
     | inr other ↦
         let Q : Type 0 = Between world.layout world.scheme s d rank in
         let each = all_put (λ l. is_of_pair s d l ≡ true → Q) (log_of world rank)

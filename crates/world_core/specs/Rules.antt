@@ -1,6 +1,6 @@
 -- The rules of a world, as one table: what a rank does breaks the first of them that it or one of its
 -- letters breaks.
-use Rattle.std.specs.Prelude.{◌≡◌, ℕ, ◌^◌, Bool, false, not, ◌&&◌, ◌||◌, ◌==◌, nat_eq, nat_lt, Option, Some, None, List, [], ◌∷◌, ◌++◌, length, take, slice_get, if◌then◌else◌}
+use Rattle.std.specs.Prelude.{◌≡◌, ℕ, Bool, false, not, ◌&&◌, ◌||◌, ◌==◌, nat_eq, nat_lt, Option, Some, None, List, [], ◌∷◌, ◌++◌, length, take, slice_get, if◌then◌else◌}
 use Rattle.std.specs.List.{list_any}
 use lib.Pointwise.{pointwise}
 use Rattle.msg_codec.specs.declared.letter.Letter.{Letter}
@@ -8,6 +8,7 @@ use Rattle.ygm_route.specs.Hop.{hop}
 use Rattle.world_core.specs.declared.entry.Entry.TheVariants.{Put}
 use Rattle.world_core.specs.declared.why.Why.{Why}
 use Rattle.world_core.specs.declared.why.Why.TheVariants.{NoSuchRank, NothingThere, EmptyBatch, BadTag, WrongHop, NotHeld, TooManySent}
+use Rattle.world_core.specs.Limits.{most_letters}
 use Rattle.world_core.specs.Local.{Local, is_rank, to_forward, having_put}
 use Rattle.world_core.specs.Pairs.{is_data, own}
 
@@ -52,7 +53,7 @@ abbrev pub not_held : Local → ℕ → Letter → Bool
 not_held me to l = is_data l && not (l.from == me.here) && not (is_first_of (to_forward me l.from l.to) l)
 
 abbrev pub too_many_sent : Local → ℕ → Letter → Bool
-too_many_sent me to l = is_data l && (l.from == me.here) && not (nat_lt (length (own me.here me.log)) (2 ^ 56))
+too_many_sent me to l = is_data l && (l.from == me.here) && not (nat_lt (length (own me.here me.log)) most_letters)
 
 -- a letter breaks the rule, each being tried as if those before it had been put
 abbrev pub some_letter_after : (Local → ℕ → Letter → Bool) → List Letter → List Letter → Local → ℕ → Bool

@@ -8,6 +8,7 @@ ghost use Rattle.msg_codec.specs.declared.letter.Letter.{Letter};
 ghost use Rattle.ygm_route.specs.declared.scheme.Scheme.{Scheme};
 ghost use Rattle.ygm_route.specs.Layout.{IsLayout, Shape};
 ghost use Rattle.world_core.specs.declared.entry.Entry.TheVariants.{Put, Took};
+ghost use Rattle.world_core.specs.Limits.{data_tags, most_arrived, most_batches, most_letters, most_rounds};
 ghost use Rattle.world_core.specs.Log.{batches_put, batches_taken};
 ghost use Rattle.world_core.specs.Modest.{IsWorld};
 ghost use Rattle.world_core.specs.Rules.{first_broken, same_letter};
@@ -37,11 +38,20 @@ pub fn taking_the_next_batch_keeps_a_sound_world()
         IsWorld (gaining world to (Took from letters)) }
 {}
 
+/// The numbers that bound a run.
+pub fn the_limits_are_these_numbers()
+    ensures letters { most_letters ≡ 2 ^ 56 }
+    ensures rounds { most_rounds ≡ 2 ^ 56 }
+    ensures batches { most_batches ≡ 2 ^ 62 }
+    ensures arrived { most_arrived ≡ 2 ^ 62 }
+    ensures tags { data_tags ≡ 240 }
+{}
+
 /// What `Limits::FULL` is.
 pub fn the_greatest_limits() -> Limits
-    ensures letters { result.letters ≡ 2 ^ 56 }
-    ensures rounds { result.rounds ≡ 2 ^ 56 }
-    ensures batches { result.batches ≡ 2 ^ 62 }
+    ensures letters { result.letters ≡ most_letters }
+    ensures rounds { result.rounds ≡ most_rounds }
+    ensures batches { result.batches ≡ most_batches }
 {
     Limits::FULL
 }
