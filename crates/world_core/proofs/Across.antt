@@ -5,19 +5,21 @@ use Rattle.std.proofs.lemmas.Bool.{cases_lt, false_from_ne_true}
 use Rattle.msg_codec.specs.declared.letter.Letter.{Letter}
 use Rattle.ygm_route.specs.declared.scheme.Scheme.{Scheme}
 use Rattle.ygm_route.specs.Layout.{Shape, AreRanks}
-use Rattle.ygm_route.specs.Path.{crosses, path}
+use Rattle.ygm_route.specs.Path.{crosses, path, passes}
 use Rattle.ygm_route.specs.Hop.{hop}
-use Rattle.ygm_route.specs.Path.{passes}
 use Rattle.ygm_route.proofs.PathLaws.{crosses_next_hops, crosses_hop, crosses_first_hop, one_parent, link_end}
 use Rattle.ygm_route.proofs.Ways.{way, at_once, over_one, over_two}
 use Rattle.world_core.specs.Log.{batches_put, batches_taken, letters_of}
 use Rattle.world_core.specs.Pairs.{is_of_pair, of_pair, pair_put, pair_taken}
-use Rattle.world_core.specs.Sound.{IsPrefix, IsOnPath, IsSound}
+use Rattle.list_facts.specs.Prefix.{IsPrefix}
+use Rattle.world_core.specs.Sound.{IsOnPath, IsSound}
 use Rattle.world_core.specs.World.{Logs, log_of}
 use Rattle.world_core.proofs.Carried.{IsCarried, IsThird, between}
 use Rattle.world_core.proofs.OnPath.{Base, pair_of, alone, carried_put, carried_taken}
 use Rattle.world_core.proofs.Only.{only_put, only_taken}
-use Rattle.world_core.proofs.Lists.{prefix_trans, prefix_filter, prefix_joined, all_weaker, filter_none}
+use Rattle.list_facts.proofs.Prefix.{prefix_trans, prefix_filter, prefix_joined}
+use Rattle.list_facts.proofs.Elements.{all_weaker}
+use Rattle.list_facts.proofs.Filters.{filter_none}
 
 module _ (world : Logs) (base : Base world) where
   -- the link that a letter of a pair crosses is on the path of the pair
@@ -39,7 +41,7 @@ module _ (world : Logs) (base : Base world) where
       only_taken (is_of_pair s d) a (λ r l. IsCarried world.layout world.scheme r b l)
       (λ r l c p. one_parent world.layout world.scheme s d d r a b ranks ranks (crossing_pair s d r b l c p) h)
       (log_of world b) (λ r. carried_taken world base r b) in
-      rw (put, taken) (prefix_filter (is_of_pair s d) _ _ (prefix_joined _ _ (base.agree a b)))
+      rw (put, taken) (prefix_filter (is_of_pair s d) (prefix_joined (base.agree a b)))
 
   abbrev layout : Shape
   layout = world.layout
@@ -60,7 +62,7 @@ module _ (world : Logs) (base : Base world) where
       IsPrefix (pair_taken s d (log_of world b)) (pair_put s d (log_of world s))
   over s d m b ranks not_s not_d link p =
       let third : IsThird layout s d m = record { from_within = ranks.from_within; to_within = ranks.to_within; not_sender = not_s; not_destination = not_d } in
-      prefix_trans _ _ _ (link_carries s d m b ranks link) (prefix_trans _ _ _ ((alone world base m).forward s d third) p)
+      prefix_trans (link_carries s d m b ranks link) (prefix_trans ((alone world base m).forward s d third) p)
 
   pub got_of_ranks : (s d : ℕ) → AreRanks layout s d → IsPrefix (pair_taken s d (log_of world d)) (pair_put s d (log_of world s))
   got_of_ranks s d ranks = elim (way layout s d ranks scheme) [
@@ -94,9 +96,9 @@ module _ (world : Logs) (base : Base world) where
   got_prefix s d = elim (cases_lt s layout.ranks) [
     | inl from ↦ elim (cases_lt d layout.ranks) [
       | inl to ↦ got_of_ranks s d (record { laid_out = base.laid_out; from_within = from; to_within = to })
-      | inr past ↦ rw (no_pair s d d (λ r. absurd (omega (arith, r.to_within)))) (pair_put s d (log_of world s), refl)
+      | inr past ↦ rw (no_pair s d d (λ r. absurd (omega (arith, r.to_within)))) (record { rest = pair_put s d (log_of world s); joined = refl })
     ]
-    | inr past ↦ rw (no_pair s d d (λ r. absurd (omega (arith, r.from_within)))) (pair_put s d (log_of world s), refl)
+    | inr past ↦ rw (no_pair s d d (λ r. absurd (omega (arith, r.from_within)))) (record { rest = pair_put s d (log_of world s); joined = refl })
   ]
 
   pub is_sound : IsSound world

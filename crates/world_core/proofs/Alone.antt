@@ -1,5 +1,8 @@
 -- What an honest log has, whatever the other ranks do.
 use Rattle.std.proofs.Common.{◌≡◌, ℕ, zero, suc, ◌≤◌, ◌<◌, Bool, true, false, nat_eq, eqb-true, ne_eqb, Some, None, List, [], ◌∷◌, ◌++◌, length, take, slice_get, get_or, refl, sym, ap, ◌∙◌, subst, append-nil, inl, inr, if◌then◌else◌, arith, add-one, length-append, le_of_lt}
+use Rattle.list_facts.proofs.Places.{item_at_end, item_left}
+use Rattle.list_facts.proofs.Elements.{all_if, all_append}
+use Rattle.list_facts.proofs.Prefix.{prefix_refl, prefix_longer}
 use Rattle.std.specs.List.{AllByRecursion}
 use Rattle.std.proofs.lemmas.Grind.{flat_map-append}
 use Rattle.msg_codec.specs.declared.letter.Letter.{Letter}
@@ -13,12 +16,12 @@ use Rattle.world_core.specs.Log.{batches_put, letters_of}
 use Rattle.world_core.specs.Pairs.{of_pair, own, pair_put, pair_taken}
 use Rattle.world_core.specs.Rules.{first_broken, IsHonest}
 use Rattle.world_core.specs.Rules.Deed.{Puts}
-use Rattle.world_core.specs.Sound.{IsPrefix}
+use Rattle.list_facts.specs.Prefix.{IsPrefix}
 use Rattle.world_core.proofs.Batch.{forward_batch, own_batch, pair_put-put, own-put, pair_taken-put, pair_put-took, pair_taken-took}
 use Rattle.world_core.proofs.Broken.{Unbroken, unbroken, sender_within, receiver_within}
 use Rattle.world_core.proofs.Carried.{IsSent, sent, IsThird}
 use Rattle.world_core.proofs.Entries.{batches_put-put, batches_put-took, letters_put-took}
-use Rattle.world_core.proofs.Lists.{all_append, or_false_second, prefix_longer}
+use Rattle.list_facts.proofs.Tests.{or_false_second}
 use Rattle.std.proofs.lemmas.Bool.{cases_lt}
 use Rattle.std.proofs.Math.Seq.{take-append_seam, take-length}
 use Rattle.std.proofs.lemmas.List.{take_more, take-append-le}
@@ -30,15 +33,6 @@ pub record Alone (me : Local) : Type 0 where
   pub few : length (own me.here me.log) ≤ most_letters
   pub targets : (to : ℕ) → me.layout.ranks ≤ to → batches_put to me.log ≡ []
 
-pub slice_get_left : {X : Type 0} (xs ys : List X) (k : ℕ) → k < length xs → slice_get (xs ++ ys) k ≡ slice_get xs k
-slice_get_left [] ys k lt = absurd (omega arith)
-slice_get_left (x ∷ xs) ys zero lt = refl
-slice_get_left (x ∷ xs) ys (suc k) lt = slice_get_left xs ys k (omega arith)
-
-pub slice_get_end : {X : Type 0} (xs : List X) (y : X) → slice_get (xs ++ y ∷ []) (length xs) ≡ Some y
-slice_get_end [] y = refl
-slice_get_end (x ∷ xs) y = slice_get_end xs y
-
 abbrev pub after : Local → Entry → Local
 after me entry = record me { log = me.log ++ entry ∷ [] }
 
@@ -46,12 +40,8 @@ one_batch : (b : Bool) (batch : List Letter) → letters_of (if b then batch ∷
 one_batch true batch = append-nil batch
 one_batch false batch = refl
 
-all_if : {X : Type 0} (P : X → Type 0) (b : Bool) (xs : List X) → (b ≡ true → AllByRecursion P xs) → AllByRecursion P (if b then xs else [])
-all_if P true xs f = f refl
-all_if P false xs f = tt
-
 pub alone_nil : (layout : Shape) (scheme : Scheme) (here : ℕ) → Alone (record { layout = layout; scheme = scheme; here = here; log = [] })
-alone_nil layout scheme here = record { carry = λ to. tt; forward = λ s d third. ([], refl); few = omega arith; targets = λ to past. refl }
+alone_nil layout scheme here = record { carry = λ to. tt; forward = λ s d third. prefix_refl []; few = omega arith; targets = λ to past. refl }
 
 pub alone_put : (me : Local) (to : ℕ) (letters : List Letter) → Alone me → Unbroken me to letters → Alone (after me (Put to letters))
 alone_put me to letters alone ok = record {
@@ -77,7 +67,7 @@ pub alone_took : (me : Local) (from : ℕ) (letters : List Letter) → Alone me 
 alone_took me from letters alone = record {
   carry = λ rank. rw (batches_put-took me.log from rank letters) (alone.carry rank);
   forward = λ s d third. rw (pair_put-took s d me.log from letters, pair_taken-took s d me.log from letters)
-      (prefix_longer (pair_put s d me.log) (pair_taken s d me.log) (of_pair s d letters) (alone.forward s d third));
+      (prefix_longer (of_pair s d letters) (alone.forward s d third));
   few = rw (letters_put-took me.log from letters) alone.few;
   targets = λ rank past. batches_put-took me.log from rank letters ∙ alone.targets rank past;
 }
@@ -110,12 +100,12 @@ honest_more me entry honest ok k to letters h =
     let P : List Entry → Type 0 = λ log. first_broken (record me { log = log }) (Puts to letters) ≡ None in
     elim (cases_lt k (length me.log)) [
       | inl within ↦ subst P (sym (take-append-le k me.log (entry ∷ []) (le_of_lt within)))
-          (honest k to letters (sym (slice_get_left me.log (entry ∷ []) k within) ∙ h))
+          (honest k to letters (sym (item_left me.log (entry ∷ []) k within) ∙ h))
       | inr past ↦
           let inside : k < length (me.log ++ entry ∷ []) = slice_get_within _ k _ h in
           let at_end : length me.log ≡ k = omega (arith, length-append me.log (entry ∷ [])) in
           let Q : ℕ → Type 0 = λ n. slice_get (me.log ++ entry ∷ []) n ≡ Some (Put to letters) in
-          let is_entry : entry ≡ Put to letters = same_Some _ _ (sym (slice_get_end me.log entry) ∙ subst Q (sym at_end) h) in
+          let is_entry : entry ≡ Put to letters = same_Some _ _ (sym (item_at_end me.log entry []) ∙ subst Q (sym at_end) h) in
           let R : ℕ → Type 0 = λ n. P (take n (me.log ++ entry ∷ [])) in
           subst R at_end (subst P (sym (take-append_seam me.log (entry ∷ []))) (ok to letters is_entry))
     ]

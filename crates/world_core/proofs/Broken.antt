@@ -7,7 +7,7 @@ use Rattle.world_core.specs.declared.why.Why.TheVariants.{NoSuchRank, EmptyBatch
 use Rattle.world_core.specs.Local.{Local}
 use Rattle.world_core.specs.Rules.{Rule, rule, rules, Deed, first_broken, first_broken_of, no_such_rank, empty_batch, some_letter, some_letter_after, bad_tag, wrong_hop, not_held, too_many_sent}
 use Rattle.world_core.specs.Rules.Deed.{Puts}
-use Rattle.world_core.proofs.Lists.{cond_none, or_false_first, or_false_second}
+use Rattle.list_facts.proofs.Tests.{cond_none, or_false_first, or_false_second}
 
 pub record Unbroken (me : Local) (to : ℕ) (letters : List Letter) : Type 0 where
   pub ranks : no_such_rank me (Puts to letters) ≡ false

@@ -11,7 +11,7 @@ use Rattle.ygm_route.specs.Path.{crosses, path}
 use Rattle.world_core.specs.Local.{Local, is_rank, is_between, having_put, to_forward}
 use Rattle.world_core.specs.Pairs.{is_data, pair_put, pair_taken}
 use Rattle.world_core.specs.Rules.{some_letter_after, bad_tag, wrong_hop, not_held, is_first_of}
-use Rattle.world_core.proofs.Lists.{or_false_first, or_false_second, and_first, and_second, and_false_second}
+use Rattle.list_facts.proofs.Tests.{or_false_first, or_false_second, and_first, and_second, and_false_second}
 
 -- a lawful letter that a rank puts to its next hop; one of another rank isn't for this one
 pub record IsSent (layout : Shape) (scheme : Scheme) (a b : ℕ) (l : Letter) : Type 0 where

@@ -1,5 +1,6 @@
 -- Logs of a sound world are modest.
-use Rattle.std.proofs.Common.{◌≡◌, ℕ, zero, suc, ◌+◌, ◌*◌, ◌<◌, ◌≤◌, ◌&&◌, Bool, true, false, nat_lt, nat_eq, ltb-true, lt-ltb, eq-eqb, List, [], ◌∷◌, length, filter, cond, ◌⊎◌, suc-mul, zero-mul, refl, inl, inr, arith, le_trans}
+use Rattle.std.proofs.Common.{◌≡◌, ℕ, zero, suc, ◌*◌, ◌<◌, ◌≤◌, ◌&&◌, Bool, true, nat_lt, nat_eq, ltb-true, lt-ltb, eq-eqb, List, length, filter, ◌⊎◌, suc-mul, zero-mul, refl, inl, inr, arith, le_trans}
+use Rattle.list_facts.proofs.Filters.{covered, fewer, none_pass}
 use Rattle.std.specs.List.{AllByRecursion}
 use Rattle.std.proofs.lemmas.Bool.{cases_lt}
 use Rattle.msg_codec.specs.declared.letter.Letter.{Letter}
@@ -12,38 +13,13 @@ use Rattle.world_core.specs.World.{Logs, log_of, local}
 use Rattle.world_core.proofs.Across.{got_prefix, is_sound}
 use Rattle.world_core.proofs.OnPath.{Base, alone, carried_taken}
 use Rattle.world_core.proofs.Only.{all_taken}
-use Rattle.world_core.proofs.Lists.{prefix_length, all_weaker, and_first, and_second, every}
-
-longer : {X : Type 0} (x : X) (xs ys : List X) (a b : Bool) → (a ≡ true → b ≡ true) → length xs ≤ length ys → length (cond a (x ∷ xs) xs) ≤ length (cond b (x ∷ ys) ys)
-longer x xs ys true true f le = omega arith
-longer x xs ys true false f le = absurd (let t = f refl in cc)
-longer x xs ys false true f le = omega arith
-longer x xs ys false false f le = le
-
--- a test that passes wherever another does passes as often
-pub fewer : {X : Type 0} (p q : X → Bool) (xs : List X) → AllByRecursion (λ x. p x ≡ true → q x ≡ true) xs → length (filter p xs) ≤ length (filter q xs)
-fewer p q [] f = omega arith
-fewer p q (x ∷ xs) f = longer x (filter p xs) (filter q xs) (p x) (q x) f.0 (fewer p q xs f.1)
+use Rattle.list_facts.proofs.Prefix.{prefix_length}
+use Rattle.list_facts.proofs.Elements.{all_weaker, every}
+use Rattle.list_facts.proofs.Tests.{and_first, and_second}
 
 -- a sender has no more letters to one rank than to all
 pub pair_of_sender : (from to : ℕ) (letters : List Letter) → length (of_pair from to letters) ≤ length (of_sender from letters)
 pair_of_sender from to letters = fewer (is_of_pair from to) (λ l. is_data l && nat_eq l.from from) letters (every _ _ (λ l h. and_first _ _ h))
-
-shared : {X : Type 0} (x : X) (xs ys zs : List X) (a b c : Bool) → (a ≡ true → (b ≡ true) ⊎ (c ≡ true)) → length xs ≤ length ys + length zs →
-    length (cond a (x ∷ xs) xs) ≤ length (cond b (x ∷ ys) ys) + length (cond c (x ∷ zs) zs)
-shared x xs ys zs true true true f le = omega arith
-shared x xs ys zs true true false f le = omega arith
-shared x xs ys zs true false true f le = omega arith
-shared x xs ys zs true false false f le = elim (f refl) [ inl h ↦ absurd cc | inr h ↦ absurd cc ]
-shared x xs ys zs false true true f le = omega arith
-shared x xs ys zs false true false f le = omega arith
-shared x xs ys zs false false true f le = omega arith
-shared x xs ys zs false false false f le = le
-
--- two tests that between them pass wherever another does
-covered : {X : Type 0} (p q r : X → Bool) → ((x : X) → p x ≡ true → (q x ≡ true) ⊎ (r x ≡ true)) → (xs : List X) → length (filter p xs) ≤ length (filter q xs) + length (filter r xs)
-covered p q r f [] = omega arith
-covered p q r f (x ∷ xs) = shared x (filter p xs) (filter q xs) (filter r xs) (p x) (q x) (r x) (f x) (covered p q r f xs)
 
 -- the letters for a rank from the senders below a number
 abbrev from_below : ℕ → ℕ → Letter → Bool
@@ -63,14 +39,6 @@ from_next here n l h =
 from_none : (here : ℕ) (l : Letter) → from_below here 0 l ≡ true → ⊥
 from_none here l h = let below : l.from < 0 = ltb-true _ _ (and_second (is_data l && nat_eq l.to here) _ h) in absurd (omega arith)
 
-none_one : {X : Type 0} (x : X) (xs : List X) (a : Bool) → (a ≡ true → ⊥) → length xs ≤ 0 → length (cond a (x ∷ xs) xs) ≤ 0
-none_one x xs true f le = absurd (f refl)
-none_one x xs false f le = le
-
-none_pass : {X : Type 0} (p : X → Bool) → ((x : X) → p x ≡ true → ⊥) → (xs : List X) → length (filter p xs) ≤ 0
-none_pass p f [] = omega arith
-none_pass p f (x ∷ xs) = none_one x (filter p xs) (p x) (f x) (none_pass p f xs)
-
 senders_below : (here most : ℕ) (xs : List Letter) → ((s : ℕ) → length (of_pair s here xs) ≤ most) → (n : ℕ) → length (filter (from_below here n) xs) ≤ n * most
 senders_below here most xs few zero = rw (zero-mul most) (none_pass (from_below here 0) (from_none here) xs)
 senders_below here most xs few (suc n) =
@@ -85,7 +53,7 @@ module _ (world : Logs) (base : Base world) where
   pair-own s d = le_trans (pair_of_sender s d (letters_put (log_of world s))) (alone world base s).few
 
   few_of_pair : (here s : ℕ) → length (of_pair s here (letters_taken (log_of world here))) ≤ most_letters
-  few_of_pair here s = le_trans (prefix_length _ _ (got_prefix world base s here)) (pair-own s here)
+  few_of_pair here s = le_trans (prefix_length (got_prefix world base s here)) (pair-own s here)
 
   lawful : (here : ℕ) → AllByRecursion (IsLawful (local world here)) (letters_taken (log_of world here))
   lawful here = all_taken (IsLawful (local world here)) (log_of world here)

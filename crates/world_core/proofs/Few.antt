@@ -1,7 +1,7 @@
 -- How many letters of a pair a log of a sound world can have.
-use Rattle.std.proofs.Common.{◌≡◌, ◌≢◌, ℕ, ◌≤◌, ◌⊎◌, Bool, true, false, cond, List, [], ◌∷◌, length, filter, refl, sym, subst, inl, inr, arith, le_trans}
+use Rattle.std.proofs.Common.{◌≡◌, ◌≢◌, ℕ, ◌≤◌, true, length, sym, subst, inl, inr, arith, le_trans}
+use Rattle.list_facts.proofs.Filters.{none_or}
 use Rattle.std.specs.Bool.{IsTrue}
-use Rattle.std.specs.List.{AllByRecursion}
 use Rattle.std.proofs.lemmas.Bool.{cases_eq}
 use Rattle.msg_codec.specs.declared.letter.Letter.{Letter}
 use Rattle.ygm_route.specs.declared.scheme.Scheme.{Scheme}
@@ -14,24 +14,16 @@ use Rattle.world_core.specs.Limits.{most_letters}
 use Rattle.world_core.specs.Log.{letters_put}
 use Rattle.world_core.specs.Modest.{IsWorld}
 use Rattle.world_core.specs.Pairs.{is_of_pair, own, pair_put, pair_taken}
-use Rattle.world_core.specs.Sound.{IsPrefix}
+use Rattle.list_facts.specs.Prefix.{IsPrefix}
 use Rattle.world_core.specs.World.{Logs, log_of}
 use Rattle.world_core.proofs.Across.{link_carries}
 use Rattle.world_core.proofs.Carried.{IsCarried, IsThird}
 use Rattle.world_core.proofs.Counted.{pair_of_sender}
 use Rattle.world_core.proofs.Kept.{base_of}
-use Rattle.world_core.proofs.Lists.{all_weaker, prefix_length, prefix_trans}
+use Rattle.list_facts.proofs.Elements.{all_weaker}
+use Rattle.list_facts.proofs.Prefix.{prefix_length, prefix_trans}
 use Rattle.world_core.proofs.OnPath.{alone, carried_put, pair_of}
 use Rattle.world_core.proofs.Only.{all_put}
-
--- none passes a test, or one does and so a claim holds
-pick : {X : Type 0} (Q : Type 0) (b : Bool) (x : X) (ys : List X) → (b ≡ true → Q) → (ys ≡ []) ⊎ Q → (cond b (x ∷ ys) ys ≡ []) ⊎ Q
-pick Q true x ys f rest = inr (f refl)
-pick Q false x ys f rest = rest
-
-none_or : {X : Type 0} (test : X → Bool) (Q : Type 0) (xs : List X) → AllByRecursion (λ x. test x ≡ true → Q) xs → (filter test xs ≡ []) ⊎ Q
-none_or test Q [] h = inl refl
-none_or test Q (x ∷ xs) h = pick Q (test x) x (filter test xs) h.0 (none_or test Q xs h.1)
 
 -- a rank that stands between two others
 record Between (layout : Shape) (scheme : Scheme) (s d r : ℕ) : Type 0 where
@@ -46,7 +38,7 @@ module _ (world : Logs) (w : IsWorld world) where
   goes_back : (s d a b : ℕ) → AreRanks world.layout s d → IsTrue (crosses (path world.layout world.scheme s d) a b) →
       IsThird world.layout s d a → from_sender s d a → from_sender s d b
   goes_back s d a b ranks link third p =
-      prefix_trans _ _ _ (link_carries world (base_of world w) s d a b ranks link) (prefix_trans _ _ _ ((alone world (base_of world w) a).forward s d third) p)
+      prefix_trans (link_carries world (base_of world w) s d a b ranks link) (prefix_trans ((alone world (base_of world w) a).forward s d third) p)
 
   crossed : (s d a b : ℕ) → IsTrue (crosses (path world.layout world.scheme s d) a (hop world.layout world.scheme a d)) → hop world.layout world.scheme a d ≡ b →
       IsTrue (crosses (path world.layout world.scheme s d) a b)
@@ -99,7 +91,7 @@ module _ (world : Logs) (w : IsWorld world) where
         elim (none_or (is_of_pair s d) Q (letters_put (log_of world rank)) each) [
           | inl none ↦ rw none (omega arith)
           | inr there ↦
-              le_trans (prefix_length _ _ ((alone world (base_of world w) rank).forward s d there.third))
-              (le_trans (prefix_length _ _ (taken_between s d rank there)) (few_of_sender s d))
+              le_trans (prefix_length ((alone world (base_of world w) rank).forward s d there.third))
+              (le_trans (prefix_length (taken_between s d rank there)) (few_of_sender s d))
         ]
   ]

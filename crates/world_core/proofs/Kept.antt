@@ -11,14 +11,15 @@ use Rattle.world_core.specs.Log.{batches_put, batches_taken}
 use Rattle.world_core.specs.Modest.{IsWorld}
 use Rattle.world_core.specs.Rules.{first_broken, IsHonest}
 use Rattle.world_core.specs.Rules.Deed.{Puts}
-use Rattle.world_core.specs.Sound.{IsPrefix, LinksAgree}
+use Rattle.list_facts.specs.Prefix.{IsPrefix}
+use Rattle.world_core.specs.Sound.{LinksAgree}
 use Rattle.world_core.specs.World.{Logs, fresh, gaining, local, log_of}
 use Rattle.world_core.proofs.Alone.{honest_more}
 use Rattle.world_core.proofs.Broken.{unbroken, sender_within}
 use Rattle.world_core.proofs.Counted.{is_world}
 use Rattle.world_core.proofs.Entries.{batches_put-put, batches_put-took, batches_taken-put, batches_taken-took}
 use Rattle.world_core.proofs.OnPath.{Base, alone}
-use Rattle.world_core.proofs.Lists.{prefix_refl, prefix_trans}
+use Rattle.list_facts.proofs.Prefix.{prefix_refl, prefix_trans}
 
 pub base_of : (world : Logs) → IsWorld world → Base world
 base_of world w = record { laid_out = w.sound.laid_out; all_ranks = w.sound.all_ranks; agree = w.sound.agree; honest = w.sound.honest }
@@ -28,8 +29,8 @@ put_is to rank letters batch e = (cc, cc)
 
 next_of : (xs rest : List (List Letter)) (y : List Letter) → slice_get (xs ++ rest) (length xs) ≡ Some y → IsPrefix (xs ++ y ∷ []) (xs ++ rest)
 next_of [] [] y h = absurd cc
-next_of [] (z ∷ rest) y h = (rest, ap (λ w. w ∷ rest) (let same : y ≡ z = cc in same))
-next_of (x ∷ xs) rest y h = let p = next_of xs rest y h in (p.0, ap (λ ws. x ∷ ws) p.1)
+next_of [] (z ∷ rest) y h = record { rest = rest; joined = ap (λ w. w ∷ rest) (let same : y ≡ z = cc in same) }
+next_of (x ∷ xs) rest y h = let p = next_of xs rest y h in record { rest = p.rest; joined = ap (λ ws. x ∷ ws) p.joined }
 
 -- what holds of each log, where it holds of the old ones and of the one that gained an entry
 each_log : (world : Logs) (rank : ℕ) (entry : Entry) (P : ℕ → List Entry → Type 0) → rank < length world.logs → ((r : ℕ) → P r (log_of world r)) →
@@ -61,9 +62,9 @@ put_kept world from to letters base ok =
     each_log world from (Put to letters) (λ j log. (i : ℕ) → batches_taken i log ≡ batches_taken i (log_of world j)) inside (λ j i. refl) (λ i. batches_taken-put (log_of world from) to i letters) in
     let put : (i j : ℕ) → IsPrefix (batches_put j (log_of world i)) (batches_put j (log_of (gaining world from (Put to letters)) i)) =
     each_log world from (Put to letters) (λ i log. (j : ℕ) → IsPrefix (batches_put j (log_of world i)) (batches_put j log)) inside (λ i j. prefix_refl (batches_put j (log_of world i)))
-    (λ j. ((if nat_eq to j then letters ∷ [] else []), sym (batches_put-put (log_of world from) to j letters))) in
+    (λ j. record { rest = if nat_eq to j then letters ∷ [] else []; joined = sym (batches_put-put (log_of world from) to j letters) }) in
     gained world from (Put to letters) base within
-    (λ i j. rw (taken j i) (prefix_trans _ _ _ (base.agree i j) (put i j)))
+    (λ i j. rw (taken j i) (prefix_trans (base.agree i j) (put i j)))
     (λ rank batch e. let same = put_is to rank letters batch e in
     let P : ℕ → List Letter → Type 0 = λ r b. first_broken (local world from) (Puts r b) ≡ None in
     subst (λ b. P rank b) same.1 (subst (λ r. P r letters) same.0 ok))
@@ -74,7 +75,7 @@ prefix_next : (xs ys : List (List Letter)) (y : List Letter) → IsPrefix xs ys 
 prefix_next xs ys y p h =
     let P : List (List Letter) → Type 0 = λ zs. slice_get zs (length xs) ≡ Some y in
     let Q : List (List Letter) → Type 0 = IsPrefix (xs ++ y ∷ []) in
-    subst Q p.1 (next_of xs p.0 y (subst P (sym p.1) h))
+    subst Q p.joined (next_of xs p.rest y (subst P (sym p.joined) h))
 
 pub take_kept : (world : Logs) (from to : ℕ) (letters : List Letter) → Base world →
     slice_get (batches_put to (log_of world from)) (length (batches_taken from (log_of world to))) ≡ Some letters → Base (gaining world to (Took from letters))
@@ -127,7 +128,7 @@ pub fresh_base : (layout : Shape) (scheme : Scheme) → IsLayout layout → Base
 fresh_base layout scheme laid = record {
   laid_out = laid;
   all_ranks = length-replicate layout.ranks [];
-  agree = λ i j. rw (empty_log layout scheme j, empty_log layout scheme i) ([], refl);
+  agree = λ i j. rw (empty_log layout scheme j, empty_log layout scheme i) (prefix_refl []);
   honest = λ rank within k to letters h. absurd (
       let P : List Entry → Type 0 = λ log. slice_get log k ≡ Some (Put to letters) in
       let never : P [] = subst P (empty_log layout scheme rank) h in cc);

@@ -11,10 +11,8 @@ pub mod FullLinks
 pub mod Held
 pub mod Kept
 pub mod Links
-pub mod Lists
 pub mod OnPath
 pub mod Only
-pub mod Parts
 pub mod Posts
 pub mod Replayed
 pub mod Row

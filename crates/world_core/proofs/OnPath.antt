@@ -20,7 +20,10 @@ use Rattle.world_core.specs.World.{Logs, log_of, local}
 use Rattle.world_core.proofs.Alone.{Alone, alone_nil, alone_honest}
 use Rattle.world_core.proofs.Carried.{IsCarried, IsSent, IsThird}
 use Rattle.world_core.proofs.Only.{all_taken, each_put}
-use Rattle.world_core.proofs.Lists.{prefix_joined, prefix_nil, all_prefix, all_weaker, and_first, and_second, filter_none, none_kept}
+use Rattle.list_facts.proofs.Prefix.{prefix_joined, prefix_nil}
+use Rattle.list_facts.proofs.Elements.{all_prefix, all_weaker}
+use Rattle.list_facts.proofs.Tests.{and_first, and_second}
+use Rattle.list_facts.proofs.Filters.{filter_none, none_kept}
 
 -- what all else follows from
 pub record Base (world : Logs) : Type 0 where
@@ -75,7 +78,7 @@ module _ (world : Logs) (base : Base world) where
   -- where it took nothing of the pair, it put nothing of it
   nothing_put : (s d j : ℕ) → IsThird layout s d j → None_of s d (letters_taken (log_of world j)) → None_of s d (letters_put (log_of world j))
   nothing_put s d j t none =
-      none_kept (is_of_pair s d) (letters_put (log_of world j)) (prefix_nil _ (rw (← filter_none (is_of_pair s d) (letters_taken (log_of world j)) none) ((alone j).forward s d t)))
+      none_kept (is_of_pair s d) (letters_put (log_of world j)) (prefix_nil (rw (← filter_none (is_of_pair s d) (letters_taken (log_of world j)) none) ((alone j).forward s d t)))
 
   -- a rank puts a letter of the pair to its next hop alone
   other_link : (s d k j : ℕ) → hop layout scheme k d ≢ j → None_of s d (letters_of (batches_put j (log_of world k)))
@@ -124,7 +127,7 @@ module _ (world : Logs) (base : Base world) where
               each_put _ (log_of world k) (off_path s d ranks n k k_within k_off (omega (arith, more, far))) j
         ]
       ] in
-      nothing_put s d j t (all_taken _ (log_of world j) (λ k. all_prefix _ _ _ (prefix_joined _ _ (base.agree k j)) (from k)))
+      nothing_put s d j t (all_taken _ (log_of world j) (λ k. all_prefix _ (prefix_joined (base.agree k j)) (from k)))
 
   -- ---- so each letter is on its path
 
@@ -154,4 +157,4 @@ module _ (world : Logs) (base : Base world) where
   ]
 
   pub carried_taken : (a b : ℕ) → AllByRecursion (IsCarried world.layout world.scheme a b) (letters_of (batches_taken a (log_of world b)))
-  carried_taken a b = all_prefix _ _ _ (prefix_joined _ _ (base.agree a b)) (carried_put a b)
+  carried_taken a b = all_prefix _ (prefix_joined (base.agree a b)) (carried_put a b)
