@@ -11,7 +11,7 @@ use Rattle.ygm_route.specs.Layout.{Shape}
 use Rattle.world_core.specs.declared.entry.Entry.{Entry}
 use Rattle.world_core.specs.declared.entry.Entry.TheVariants.{Put, Took}
 use Rattle.world_core.specs.Limits.{most_letters}
-use Rattle.world_core.specs.Local.{Local}
+use Rattle.world_core.specs.Local.{Local, local_rank}
 use Rattle.world_core.specs.Log.{batches_put, letters_of}
 use Rattle.world_core.specs.Pairs.{of_pair, own, pair_put, pair_taken}
 use Rattle.world_core.specs.Rules.{first_broken, IsHonest}
@@ -40,7 +40,7 @@ one_batch : (b : Bool) (batch : List Letter) → letters_of (if b then batch ∷
 one_batch true batch = append-nil batch
 one_batch false batch = refl
 
-pub alone_nil : (layout : Shape) (scheme : Scheme) (here : ℕ) → Alone (record { layout = layout; scheme = scheme; here = here; log = [] })
+pub alone_nil : (layout : Shape) (scheme : Scheme) (here : ℕ) → Alone (local_rank layout scheme here [])
 alone_nil layout scheme here = record { carry = λ to. tt; forward = λ s d third. prefix_refl []; few = omega arith; targets = λ to past. refl }
 
 pub alone_put : (me : Local) (to : ℕ) (letters : List Letter) → Alone me → Unbroken me to letters → Alone (after me (Put to letters))

@@ -1,7 +1,8 @@
 -- Whether a link of plain links is full, as the code reads it and as the logs say.
 use Rattle.std.proofs.Common.{◌≡◌, ℕ, ◌+◌, ◌*◌, ◌<◌, ◌||◌, nat_le, None, List, length, get_or, sym, ap, ◌∙◌, subst}
 use Rattle.msg_codec.specs.declared.letter.Letter.{Letter}
-use Rattle.world_core.specs.Plain.{AreLinks, Counted, Kept, Plain, batches_in, carried_by, is_full}
+use Rattle.world_core.specs.Kept.{AreLinks, Counted, Kept, batches_in, carried_by}
+use Rattle.world_core.specs.Plain.{Plain, is_full}
 use Rattle.world_core.specs.Rules.{first_broken}
 use Rattle.world_core.specs.Rules.Deed.{Puts}
 use Rattle.world_core.specs.World.{local}

@@ -8,6 +8,7 @@ use Rattle.ygm_route.specs.Layout.{Shape, IsLayout}
 use Rattle.world_core.specs.declared.entry.Entry.{Entry}
 use Rattle.world_core.specs.declared.entry.Entry.TheVariants.{Put, Took}
 use Rattle.world_core.specs.Log.{batches_put, batches_taken}
+use Rattle.world_core.specs.Local.{local_rank}
 use Rattle.world_core.specs.Modest.{IsWorld}
 use Rattle.world_core.specs.Rules.{first_broken, IsHonest}
 use Rattle.world_core.specs.Rules.Deed.{Puts}
@@ -48,7 +49,7 @@ gained world rank entry base within agree ok = record {
   all_ranks = length-set world.logs rank (log_of world rank ++ entry ∷ []) ∙ base.all_ranks;
   agree = agree;
   honest = each_log world rank entry
-      (λ r log. r < world.layout.ranks → IsHonest (record { layout = world.layout; scheme = world.scheme; here = r; log = log }))
+      (λ r log. r < world.layout.ranks → IsHonest (local_rank world.layout world.scheme r log))
       (rw base.all_ranks within) base.honest (λ _. honest_more (local world rank) entry (base.honest rank within) ok);
 }
 

@@ -13,6 +13,7 @@ use Rattle.ygm_route.proofs.Lengths.{path_short}
 use Rattle.ygm_route.proofs.PathLaws.{crosses_first_hop, crosses_hop, link_end, link_start, path_goes_on, some_parent, towards}
 use Rattle.world_core.specs.declared.entry.Entry.{Entry}
 use Rattle.world_core.specs.Log.{batches_put, batches_taken, letters_of, letters_put, letters_taken}
+use Rattle.world_core.specs.Local.{local_rank}
 use Rattle.world_core.specs.Pairs.{is_data, is_of_pair}
 use Rattle.world_core.specs.Rules.{IsHonest}
 use Rattle.world_core.specs.Sound.{LinksAgree}
@@ -57,7 +58,7 @@ module _ (world : Logs) (base : Base world) where
   alone rank = elim (cases_lt rank world.layout.ranks) [
     | inl within ↦ alone_honest (local world rank) (base.honest rank within)
     | inr past ↦
-        let P : List Entry → Type 0 = λ log. Alone (record { layout = world.layout; scheme = world.scheme; here = rank; log = log }) in
+        let P : List Entry → Type 0 = λ log. Alone (local_rank world.layout world.scheme rank log) in
         subst P (sym (get_or_past world.logs rank [] (rw base.all_ranks past))) (alone_nil world.layout world.scheme rank)
   ]
 

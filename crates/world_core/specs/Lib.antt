@@ -12,5 +12,6 @@ pub mod Post
 pub mod Plain
 pub mod PlainCalls
 pub mod Desk
+pub mod Kept
 pub mod Worked
 pub use Rattle.rising_counts.specs.Rising

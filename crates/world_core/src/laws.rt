@@ -1,7 +1,7 @@
 //! What keeps a world sound. Each law is the contract of a function that does nothing: a caller that calls
 //! it may rely on it. They speak of logs alone, whatever carries the letters.
 ghost use Rattle.std.specs.Prelude.{◌≡◌, ◌↔◌, ◌^◌, true, ℕ, List, [], ◌∷◌, None, Some, length, slice_get};
-ghost use Rattle.world_core.specs.Worked.{start, one, having_put};
+ghost use Rattle.world_core.specs.Worked.{start, one, one_put};
 ghost use Rattle.world_core.specs.declared.entry.Event.TheVariants.{Put as PutEvent, Take};
 ghost use Rattle.world_core.specs.declared.why.Why.TheVariants.{NothingThere};
 ghost use Rattle.msg_codec.specs.declared.letter.Letter.{Letter};
@@ -65,6 +65,6 @@ pub fn letters_are_the_same_where_they_are_equal()
 #[tactic(auto, unfolding(crate::specs::Rules::first_broken, crate::specs::Local::to_forward, crate::specs::Local::is_between, ygm_route::specs::Path::path, ygm_route::specs::Hop::hop))]
 pub fn a_second_take_is_refused()
     ensures put { refusal start (PutEvent 0 1 (one ∷ [])) ≡ None }
-    ensures first { refusal having_put (Take 1 0) ≡ None }
-    ensures second { refusal (after having_put (Take 1 0)) (Take 1 0) ≡ Some NothingThere }
+    ensures first { refusal one_put (Take 1 0) ≡ None }
+    ensures second { refusal (after one_put (Take 1 0)) (Take 1 0) ≡ Some NothingThere }
 {}
