@@ -18,7 +18,7 @@ ghost use Rattle.world_core.specs.World.{Logs, fresh, gaining, local, log_of, re
 use crate::Limits;
 
 /// A world in which nothing happened is sound.
-#[tactic(auto, using(crate::proofs::Kept::fresh_is_world))]
+#[tactic(auto, using(crate::proofs::Modest::EachEvent::fresh_is_world))]
 pub fn a_fresh_world_is_sound()
     ensures { (layout : Shape) (scheme : Scheme) → IsLayout layout → IsWorld (fresh layout scheme) }
 {}

@@ -14,9 +14,11 @@ use Rattle.world_core.specs.Pairs.{is_of_pair, of_pair, pair_put, pair_taken}
 use Rattle.list_facts.specs.Prefix.{IsPrefix}
 use Rattle.world_core.specs.Sound.{IsOnPath, IsSound}
 use Rattle.world_core.specs.World.{Logs, log_of}
-use Rattle.world_core.proofs.Carried.{IsCarried, IsThird, between}
-use Rattle.world_core.proofs.OnPath.{Base, pair_of, alone, carried_put, carried_taken}
-use Rattle.world_core.proofs.Only.{only_put, only_taken}
+use Rattle.world_core.proofs.Deeds.Sent.{IsCarried}
+use Rattle.world_core.proofs.Local.Between.{IsThird, between}
+use Rattle.world_core.proofs.Sound.OnPath.{Base, alone, carried_put, carried_taken}
+use Rattle.world_core.proofs.Pairs.OfPair.{pair_of}
+use Rattle.world_core.proofs.Log.ByLink.{only_put, only_taken}
 use Rattle.list_facts.proofs.Prefix.{prefix_trans, prefix_filter, prefix_joined}
 use Rattle.list_facts.proofs.Elements.{all_weaker}
 use Rattle.list_facts.proofs.Filters.{filter_none}

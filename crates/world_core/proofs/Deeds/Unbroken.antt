@@ -22,6 +22,7 @@ data IsIn : Rule → List Rule → Type 0 where
   first : {r : Rule} {table : List Rule} → IsIn r (r ∷ table)
   later : {r other : Rule} {table : List Rule} → IsIn r table → IsIn r (other ∷ table)
 
+-- `search rows` finds a rule in a table by its name, so that a new row breaks no proof
 ruleset rows = (first, later)
 
 -- A deed that breaks no rule of a table doesn't break this one.
@@ -43,8 +44,6 @@ unbroken me to letters h =
       held = ok NotHeld (some_letter not_held) (search rows depth 20);
       few = ok TooManySent (some_letter too_many_sent) (search rows depth 20);
     }
-
--- ---- of the batch
 
 pub sender_within : (me : Local) (to : ℕ) (letters : List Letter) → no_such_rank me (Puts to letters) ≡ false → me.here < me.layout.ranks
 sender_within me to letters h = ltb-true _ _ ((not-false _ (or_false_first _ _ (or_false_first _ _ h))))

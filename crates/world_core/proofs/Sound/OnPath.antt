@@ -1,5 +1,5 @@
 -- In honest logs that agree about each link, the letters of a pair stay on the path of that pair.
-use Rattle.std.proofs.Common.{◌≡◌, ◌≢◌, ℕ, zero, suc, ◌+◌, ◌<◌, ◌≤◌, true, false, nat_eq, eqb-true, eq-eqb, List, [], ◌∷◌, length, refl, sym, ap, ◌∙◌, subst, inl, inr, arith}
+use Rattle.std.proofs.Common.{◌≡◌, ◌≢◌, ℕ, zero, suc, ◌+◌, ◌<◌, ◌≤◌, true, false, List, [], ◌∷◌, length, refl, sym, ap, ◌∙◌, subst, inl, inr, arith}
 use Rattle.std.specs.List.{AllByRecursion}
 use Rattle.std.proofs.lemmas.Bool.{cases_eq, cases_lt, false_from_ne_true, true_from_ne_false}
 use Rattle.std.proofs.lemmas.List.{get_or_past}
@@ -14,17 +14,18 @@ use Rattle.ygm_route.proofs.PathLaws.{crosses_first_hop, crosses_hop, link_end, 
 use Rattle.world_core.specs.declared.entry.Entry.{Entry}
 use Rattle.world_core.specs.Log.{batches_put, batches_taken, letters_of, letters_put, letters_taken}
 use Rattle.world_core.specs.Local.{local_rank}
-use Rattle.world_core.specs.Pairs.{is_data, is_of_pair}
+use Rattle.world_core.specs.Pairs.{is_of_pair}
 use Rattle.world_core.specs.Rules.{IsHonest}
 use Rattle.world_core.specs.Sound.{LinksAgree}
 use Rattle.world_core.specs.World.{Logs, log_of, local}
-use Rattle.world_core.proofs.Alone.{Alone, alone_nil, alone_honest}
-use Rattle.world_core.proofs.Carried.{IsCarried, IsSent, IsThird}
-use Rattle.world_core.proofs.Only.{all_taken, each_put}
+use Rattle.world_core.proofs.Deeds.Honest.{Alone, alone_nil, alone_honest}
+use Rattle.world_core.proofs.Deeds.Sent.{IsCarried, IsSent}
+use Rattle.world_core.proofs.Local.Between.{IsThird}
+use Rattle.world_core.proofs.Log.ByLink.{all_taken, each_put}
 use Rattle.list_facts.proofs.Prefix.{prefix_joined, prefix_nil}
 use Rattle.list_facts.proofs.Elements.{all_prefix, all_weaker}
-use Rattle.list_facts.proofs.Tests.{and_first, and_second}
 use Rattle.list_facts.proofs.Filters.{filter_none, none_kept}
+use Rattle.world_core.proofs.Pairs.OfPair.{pair_of, own_pair}
 
 -- what all else follows from
 pub record Base (world : Logs) : Type 0 where
@@ -32,16 +33,6 @@ pub record Base (world : Logs) : Type 0 where
   pub all_ranks : length world.logs ≡ world.layout.ranks
   pub agree : LinksAgree world
   pub honest : (rank : ℕ) → rank < world.layout.ranks → IsHonest (local world rank)
-
--- the pair of a letter
-pub pair_of : (s d : ℕ) (l : Letter) → is_of_pair s d l ≡ true → (l.from ≡ s) × (l.to ≡ d)
-pair_of s d l h = (eqb-true _ _ (and_second _ _ (and_first _ _ h)), eqb-true _ _ (and_second _ _ h))
-
-own_pair : (l : Letter) → is_data l ≡ true → is_of_pair l.from l.to l ≡ true
-own_pair l tag =
-    let from : nat_eq l.from l.from ≡ true = eq-eqb l.from l.from refl in
-    let to : nat_eq l.to l.to ≡ true = eq-eqb l.to l.to refl in
-    rw (tag, from, to) refl
 
 -- none of these letters is of the pair
 abbrev None_of : ℕ → ℕ → List Letter → Type 0

@@ -1,4 +1,4 @@
--- Logs of a sound world are modest.
+-- Honest logs that agree about each link are modest.
 use Rattle.std.proofs.Common.{◌≡◌, ℕ, zero, suc, ◌*◌, ◌<◌, ◌≤◌, ◌&&◌, Bool, true, nat_lt, nat_eq, ltb-true, lt-ltb, eq-eqb, List, length, filter, ◌⊎◌, suc-mul, zero-mul, refl, inl, inr, arith, le_trans}
 use Rattle.list_facts.proofs.Filters.{covered, fewer, none_pass}
 use Rattle.std.specs.List.{AllByRecursion}
@@ -7,19 +7,16 @@ use Rattle.msg_codec.specs.declared.letter.Letter.{Letter}
 use Rattle.world_core.specs.Limits.{most_arrived, most_letters}
 use Rattle.world_core.specs.Log.{letters_put, letters_taken}
 use Rattle.world_core.specs.Modest.{IsLawful, IsWorld}
-use Rattle.world_core.specs.Pairs.{is_data, is_of_pair, of_pair, of_sender, arrived, pair_put}
+use Rattle.world_core.specs.Pairs.{is_data, is_of_pair, of_pair, arrived, pair_put}
 use Rattle.world_core.specs.Sound.{IsOnPath}
 use Rattle.world_core.specs.World.{Logs, log_of, local}
-use Rattle.world_core.proofs.Across.{got_prefix, is_sound}
-use Rattle.world_core.proofs.OnPath.{Base, alone, carried_taken}
-use Rattle.world_core.proofs.Only.{all_taken}
+use Rattle.world_core.proofs.Sound.FromHonest.{got_prefix, is_sound}
+use Rattle.world_core.proofs.Sound.OnPath.{Base, alone, carried_taken}
+use Rattle.world_core.proofs.Log.ByLink.{all_taken}
 use Rattle.list_facts.proofs.Prefix.{prefix_length}
-use Rattle.list_facts.proofs.Elements.{all_weaker, every}
+use Rattle.list_facts.proofs.Elements.{all_weaker}
 use Rattle.list_facts.proofs.Tests.{and_first, and_second}
-
--- a sender has no more letters to one rank than to all
-pub pair_of_sender : (from to : ℕ) (letters : List Letter) → length (of_pair from to letters) ≤ length (of_sender from letters)
-pair_of_sender from to letters = fewer (is_of_pair from to) (λ l. is_data l && nat_eq l.from from) letters (every _ _ (λ l h. and_first _ _ h))
+use Rattle.world_core.proofs.Pairs.OfPair.{pair_of_sender}
 
 -- the letters for a rank from the senders below a number
 abbrev from_below : ℕ → ℕ → Letter → Bool

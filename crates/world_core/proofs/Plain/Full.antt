@@ -1,12 +1,12 @@
--- Whether a link of plain links is full, as the code reads it and as the logs say.
+-- Whether a link is full, as the code reads it and as the logs say.
 use Rattle.std.proofs.Common.{◌≡◌, ℕ, ◌+◌, ◌*◌, ◌<◌, ◌||◌, nat_le, None, List, length, get_or, sym, ap, ◌∙◌, subst}
 use Rattle.msg_codec.specs.declared.letter.Letter.{Letter}
-use Rattle.world_core.specs.Kept.{AreLinks, Counted, Kept, batches_in, carried_by}
+use Rattle.world_core.specs.Kept.{AreLinks, Kept, batches_in, carried_by}
 use Rattle.world_core.specs.Plain.{Plain, is_full}
 use Rattle.world_core.specs.Rules.{first_broken}
 use Rattle.world_core.specs.Rules.Deed.{Puts}
 use Rattle.world_core.specs.World.{local}
-use Rattle.world_core.proofs.Row.{from_within, full_read, to_within}
+use Rattle.world_core.proofs.Kept.AreLinks.{from_within, full_read, to_within}
 
 -- `inside` is what the fields show, and `now` what the caller sees
 module _ (inside now : Plain) (n : ℕ) (row : List Kept) (links : AreLinks inside.world n (batches_in row) (carried_by row)) (same : inside ≡ now)
@@ -24,10 +24,3 @@ module _ (inside now : Plain) (n : ℕ) (row : List Kept) (links : AreLinks insi
       (nat_le inside.ring (length x.batches) || nat_le inside.batches x.carried) ≡ is_full now here to
   full_shown place x e is =
       full_read inside.world n row links here to here_in to_in inside.ring inside.batches place x e is ∙ ap (λ p. is_full p here to) same
-
--- counts in which one has one more, by equal lists
-pub counted_as : (rank : ℕ) (before old new after : List ℕ) → Counted rank old new → old ≡ before → after ≡ new → Counted rank before after
-counted_as rank before old new after counted is now =
-    let P : List ℕ → Type 0 = λ counts. Counted rank counts new in
-    let Q : List ℕ → Type 0 = λ counts. Counted rank before counts in
-    subst Q (sym now) (subst P is counted)

@@ -16,14 +16,15 @@ use Rattle.world_core.specs.Modest.{IsWorld}
 use Rattle.world_core.specs.Pairs.{is_of_pair, own, pair_put, pair_taken}
 use Rattle.list_facts.specs.Prefix.{IsPrefix}
 use Rattle.world_core.specs.World.{Logs, log_of}
-use Rattle.world_core.proofs.Across.{link_carries}
-use Rattle.world_core.proofs.Carried.{IsCarried, IsThird}
-use Rattle.world_core.proofs.Counted.{pair_of_sender}
-use Rattle.world_core.proofs.Kept.{base_of}
+use Rattle.world_core.proofs.Sound.FromHonest.{link_carries}
+use Rattle.world_core.proofs.Deeds.Sent.{IsCarried}
+use Rattle.world_core.proofs.Local.Between.{IsThird}
+use Rattle.world_core.proofs.Pairs.OfPair.{pair_of_sender, pair_of}
+use Rattle.world_core.proofs.Modest.EachEvent.{base_of}
 use Rattle.list_facts.proofs.Elements.{all_weaker}
 use Rattle.list_facts.proofs.Prefix.{prefix_length, prefix_trans}
-use Rattle.world_core.proofs.OnPath.{alone, carried_put, pair_of}
-use Rattle.world_core.proofs.Only.{all_put}
+use Rattle.world_core.proofs.Sound.OnPath.{alone, carried_put}
+use Rattle.world_core.proofs.Log.ByLink.{all_put}
 
 -- a rank that stands between two others
 record Between (layout : Shape) (scheme : Scheme) (s d r : ℕ) : Type 0 where

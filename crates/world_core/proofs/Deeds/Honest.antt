@@ -17,10 +17,12 @@ use Rattle.world_core.specs.Pairs.{of_pair, own, pair_put, pair_taken}
 use Rattle.world_core.specs.Rules.{first_broken, IsHonest}
 use Rattle.world_core.specs.Rules.Deed.{Puts}
 use Rattle.list_facts.specs.Prefix.{IsPrefix}
-use Rattle.world_core.proofs.Batch.{forward_batch, own_batch, pair_put-put, own-put, pair_taken-put, pair_put-took, pair_taken-took}
-use Rattle.world_core.proofs.Broken.{Unbroken, unbroken, sender_within, receiver_within}
-use Rattle.world_core.proofs.Carried.{IsSent, sent, IsThird}
-use Rattle.world_core.proofs.Entries.{batches_put-put, batches_put-took, letters_put-took}
+use Rattle.world_core.proofs.Deeds.AfterPut.{forward_batch, own_batch}
+use Rattle.world_core.proofs.Pairs.Appended.{pair_put-put, own-put, pair_taken-put, pair_put-took, pair_taken-took}
+use Rattle.world_core.proofs.Deeds.Unbroken.{Unbroken, unbroken, sender_within, receiver_within}
+use Rattle.world_core.proofs.Deeds.Sent.{IsSent, sent}
+use Rattle.world_core.proofs.Local.Between.{IsThird}
+use Rattle.world_core.proofs.Log.Appended.{batches_put-put, batches_put-took, letters_put-took}
 use Rattle.list_facts.proofs.Tests.{or_false_second}
 use Rattle.std.proofs.lemmas.Bool.{cases_lt}
 use Rattle.std.proofs.Math.Seq.{take-append_seam, take-length}
