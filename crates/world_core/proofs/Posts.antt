@@ -1,1 +1,1 @@
-pub mod NeverFall
+pub mod CountsNeverFall

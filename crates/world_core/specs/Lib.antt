@@ -1,3 +1,4 @@
+pub mod Limits
 pub mod Log
 pub mod Pairs
 pub mod Local
@@ -11,5 +12,6 @@ pub mod Post
 pub mod Plain
 pub mod PlainCalls
 pub mod Desk
+pub mod Kept
 pub mod Worked
 pub use Rattle.rising_counts.specs.Rising

@@ -1,7 +1,8 @@
 -- What a rank may rely on about its own log, whatever the other ranks do.
-use Rattle.std.specs.Prelude.{ℕ, ◌^◌, ◌≤◌, ◌<◌, IsTrue, length}
+use Rattle.std.specs.Prelude.{ℕ, ◌≤◌, ◌<◌, IsTrue, length}
 use Rattle.std.specs.List.{AllByRecursion}
 use Rattle.msg_codec.specs.declared.letter.Letter.{Letter}
+use Rattle.world_core.specs.Limits.{most_arrived}
 use Rattle.world_core.specs.Local.{Local, is_rank}
 use Rattle.world_core.specs.Log.{batches_taken, letters_of, letters_taken}
 use Rattle.world_core.specs.Pairs.{is_data, arrived}
@@ -17,7 +18,7 @@ pub record IsLawful (me : Local) (l : Letter) : Type 0 where
 -- A log is modest: it took no more letters for its rank than all ranks together may send, each of its letters
 -- is lawful, and each came over a link of its path.
 pub record IsModest (me : Local) : Type 0 where
-  pub few : length (arrived me.here me.log) ≤ 2 ^ 62
+  pub few : length (arrived me.here me.log) ≤ most_arrived
   pub lawful : AllByRecursion (IsLawful me) (letters_taken me.log)
   pub on_path : (from : ℕ) → AllByRecursion (IsOnPath me.layout me.scheme from me.here) (letters_of (batches_taken from me.log))
 

@@ -1,6 +1,6 @@
 -- The rules of a world, as one table: what a rank does breaks the first of them that it or one of its
 -- letters breaks.
-use Rattle.std.specs.Prelude.{◌≡◌, ℕ, ◌^◌, Bool, false, not, ◌&&◌, ◌||◌, ◌==◌, nat_eq, nat_lt, Option, Some, None, List, [], ◌∷◌, ◌++◌, length, take, slice_get, if◌then◌else◌}
+use Rattle.std.specs.Prelude.{◌≡◌, ℕ, Bool, false, not, ◌&&◌, ◌||◌, ◌==◌, nat_eq, nat_lt, Option, Some, None, List, [], ◌∷◌, ◌++◌, length, take, slice_get, if◌then◌else◌}
 use Rattle.std.specs.List.{list_any}
 use lib.Pointwise.{pointwise}
 use Rattle.msg_codec.specs.declared.letter.Letter.{Letter}
@@ -8,13 +8,14 @@ use Rattle.ygm_route.specs.Hop.{hop}
 use Rattle.world_core.specs.declared.entry.Entry.TheVariants.{Put}
 use Rattle.world_core.specs.declared.why.Why.{Why}
 use Rattle.world_core.specs.declared.why.Why.TheVariants.{NoSuchRank, NothingThere, EmptyBatch, BadTag, WrongHop, NotHeld, TooManySent}
+use Rattle.world_core.specs.Limits.{most_letters}
 use Rattle.world_core.specs.Local.{Local, is_rank, to_forward, having_put}
 use Rattle.world_core.specs.Pairs.{is_data, own}
 
--- What a rank is about to do: it puts letters to a rank, or takes from one, from which a batch waits or not.
+-- What a rank is about to do: it puts letters to a rank, or takes from one, where the link has a batch or not.
 pub data Deed : Type 0 where
   Puts : (to : ℕ) → (letters : List Letter) → Deed
-  Takes : (from : ℕ) → (waits : Bool) → Deed
+  Takes : (from : ℕ) → (some : Bool) → Deed
 
 -- ---- rules on the whole deed
 
@@ -22,15 +23,15 @@ abbrev pub no_such_rank : Local → Deed → Bool
 no_such_rank me (Puts to letters) =
     not (is_rank me.layout me.here) || not (is_rank me.layout to)
     || list_any (λ l. not (is_rank me.layout l.to) || not (is_rank me.layout l.from)) letters
-no_such_rank me (Takes from waits) = not (is_rank me.layout me.here) || not (is_rank me.layout from)
+no_such_rank me (Takes from some) = not (is_rank me.layout me.here) || not (is_rank me.layout from)
 
 abbrev pub nothing_there : Local → Deed → Bool
 nothing_there me (Puts to letters) = false
-nothing_there me (Takes from waits) = not waits
+nothing_there me (Takes from some) = not some
 
 abbrev pub empty_batch : Local → Deed → Bool
 empty_batch me (Puts to letters) = length letters == 0
-empty_batch me (Takes from waits) = false
+empty_batch me (Takes from some) = false
 
 -- ---- rules on one letter that is put to a rank
 
@@ -52,7 +53,7 @@ abbrev pub not_held : Local → ℕ → Letter → Bool
 not_held me to l = is_data l && not (l.from == me.here) && not (is_first_of (to_forward me l.from l.to) l)
 
 abbrev pub too_many_sent : Local → ℕ → Letter → Bool
-too_many_sent me to l = is_data l && (l.from == me.here) && not (nat_lt (length (own me.here me.log)) (2 ^ 56))
+too_many_sent me to l = is_data l && (l.from == me.here) && not (nat_lt (length (own me.here me.log)) most_letters)
 
 -- a letter breaks the rule, each being tried as if those before it had been put
 abbrev pub some_letter_after : (Local → ℕ → Letter → Bool) → List Letter → List Letter → Local → ℕ → Bool
@@ -62,7 +63,7 @@ some_letter_after breaks before (l ∷ letters) me to =
 
 abbrev pub some_letter : (Local → ℕ → Letter → Bool) → Local → Deed → Bool
 some_letter breaks me (Puts to letters) = some_letter_after breaks [] letters me to
-some_letter breaks me (Takes from waits) = false
+some_letter breaks me (Takes from some) = false
 
 -- ---- the table
 

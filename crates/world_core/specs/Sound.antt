@@ -1,6 +1,7 @@
 -- When the logs of a world are sound.
-use Rattle.std.specs.Prelude.{◌≡◌, ℕ, ◌<◌, ◌++◌, IsTrue, List, length}
+use Rattle.std.specs.Prelude.{◌≡◌, ℕ, ◌<◌, IsTrue, length}
 use Rattle.std.specs.List.{AllByRecursion}
+use Rattle.list_facts.specs.Prefix.{IsPrefix}
 use Rattle.msg_codec.specs.declared.letter.Letter.{Letter}
 use Rattle.ygm_route.specs.declared.scheme.Scheme.{Scheme}
 use Rattle.ygm_route.specs.Layout.{Shape, IsLayout}
@@ -10,10 +11,6 @@ use Rattle.world_core.specs.Log.{batches_put, batches_taken, letters_of}
 use Rattle.world_core.specs.Pairs.{is_data, pair_put, pair_taken}
 use Rattle.world_core.specs.Rules.{IsHonest}
 use Rattle.world_core.specs.World.{Logs, log_of, local}
-
--- a list is the beginning of another
-abbrev pub IsPrefix : {X : Type 0} → List X → List X → Type 0
-IsPrefix {X} part whole = (rest : List X) × (part ++ rest ≡ whole)
 
 -- what each rank took from each is a prefix of what that one put to it, batch by batch
 abbrev pub LinksAgree : Logs → Type 0

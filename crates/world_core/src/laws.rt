@@ -1,13 +1,14 @@
 //! What keeps a world sound. Each law is the contract of a function that does nothing: a caller that calls
 //! it may rely on it. They speak of logs alone, whatever carries the letters.
 ghost use Rattle.std.specs.Prelude.{◌≡◌, ◌↔◌, ◌^◌, true, ℕ, List, [], ◌∷◌, None, Some, length, slice_get};
-ghost use Rattle.world_core.specs.Worked.{start, one, having_put};
+ghost use Rattle.world_core.specs.Worked.{start, one, one_put};
 ghost use Rattle.world_core.specs.declared.entry.Event.TheVariants.{Put as PutEvent, Take};
 ghost use Rattle.world_core.specs.declared.why.Why.TheVariants.{NothingThere};
 ghost use Rattle.msg_codec.specs.declared.letter.Letter.{Letter};
 ghost use Rattle.ygm_route.specs.declared.scheme.Scheme.{Scheme};
 ghost use Rattle.ygm_route.specs.Layout.{IsLayout, Shape};
 ghost use Rattle.world_core.specs.declared.entry.Entry.TheVariants.{Put, Took};
+ghost use Rattle.world_core.specs.Limits.{data_tags, most_arrived, most_batches, most_letters, most_rounds};
 ghost use Rattle.world_core.specs.Log.{batches_put, batches_taken};
 ghost use Rattle.world_core.specs.Modest.{IsWorld};
 ghost use Rattle.world_core.specs.Rules.{first_broken, same_letter};
@@ -17,7 +18,7 @@ ghost use Rattle.world_core.specs.World.{Logs, fresh, gaining, local, log_of, re
 use crate::Limits;
 
 /// A world in which nothing happened is sound.
-#[tactic(auto, using(crate::proofs::Kept::fresh_is_world))]
+#[tactic(auto, using(crate::proofs::Modest::EachEvent::fresh_is_world))]
 pub fn a_fresh_world_is_sound()
     ensures { (layout : Shape) (scheme : Scheme) → IsLayout layout → IsWorld (fresh layout scheme) }
 {}
@@ -37,11 +38,20 @@ pub fn taking_the_next_batch_keeps_a_sound_world()
         IsWorld (gaining world to (Took from letters)) }
 {}
 
+/// The numbers that bound a run.
+pub fn the_limits_are_these_numbers()
+    ensures letters { most_letters ≡ 2 ^ 56 }
+    ensures rounds { most_rounds ≡ 2 ^ 56 }
+    ensures batches { most_batches ≡ 2 ^ 62 }
+    ensures arrived { most_arrived ≡ 2 ^ 62 }
+    ensures tags { data_tags ≡ 240 }
+{}
+
 /// What `Limits::FULL` is.
 pub fn the_greatest_limits() -> Limits
-    ensures letters { result.letters ≡ 2 ^ 56 }
-    ensures rounds { result.rounds ≡ 2 ^ 56 }
-    ensures batches { result.batches ≡ 2 ^ 62 }
+    ensures letters { result.letters ≡ most_letters }
+    ensures rounds { result.rounds ≡ most_rounds }
+    ensures batches { result.batches ≡ most_batches }
 {
     Limits::FULL
 }
@@ -55,6 +65,6 @@ pub fn letters_are_the_same_where_they_are_equal()
 #[tactic(auto, unfolding(crate::specs::Rules::first_broken, crate::specs::Local::to_forward, crate::specs::Local::is_between, ygm_route::specs::Path::path, ygm_route::specs::Hop::hop))]
 pub fn a_second_take_is_refused()
     ensures put { refusal start (PutEvent 0 1 (one ∷ [])) ≡ None }
-    ensures first { refusal having_put (Take 1 0) ≡ None }
-    ensures second { refusal (after having_put (Take 1 0)) (Take 1 0) ≡ Some NothingThere }
+    ensures first { refusal one_put (Take 1 0) ≡ None }
+    ensures second { refusal (after one_put (Take 1 0)) (Take 1 0) ≡ Some NothingThere }
 {}

@@ -1,0 +1,95 @@
+-- The first letter that a rank has to forward.
+use Rattle.std.proofs.Common.{◌≡◌, ◌≢◌, ℕ, Bool, true, false, not, nat_eq, List, [], ◌∷◌, ◌++◌, length, drop, refl, eq-eqb, ne_eqb, if◌then◌else◌, ◌≤◌, ◌&&◌, sym, ap, ◌∙◌, subst, append_assoc, arith, length-append, zero, suc, ◌+◌, nat_lt, Some, slice_get}
+use Rattle.msg_codec.specs.declared.letter.Letter.{Letter}
+use Rattle.world_core.specs.Local.{Local, is_rank, having_put, to_forward}
+use Rattle.world_core.specs.Pairs.{pair_put, pair_taken, is_of_pair, of_pair}
+use Rattle.world_core.specs.Rules.{is_first_of, same_letter}
+use Rattle.list_facts.proofs.Tests.{and_second}
+use Rattle.std.proofs.Math.Seq.{drop-append_seam}
+use Rattle.world_core.specs.Log.{letters_taken}
+use Rattle.list_facts.specs.Prefix.{IsPrefix}
+use Rattle.world_core.proofs.Local.Between.{not_equal, between}
+use Rattle.list_facts.proofs.Filters.{found}
+use Rattle.world_core.specs.Modest.{IsLawful, IsModest}
+use Rattle.world_core.proofs.Pairs.Appended.{pair_put-put, pair_taken-put}
+use Rattle.world_core.proofs.Pairs.OfPair.{pair_of}
+use Rattle.world_core.proofs.Deeds.SameLetter.{same_letter-is}
+
+first_if : (b : Bool) (xs : List Letter) (l : Letter) → is_first_of (if b then xs else []) l ≡ true → (b ≡ true) × (is_first_of xs l ≡ true)
+first_if true xs l h = (refl, h)
+first_if false xs l h = absurd cc
+
+-- what a rank forwards isn't for itself, and is the first after what it put
+pub forwarding : (me : Local) (s d : ℕ) (l : Letter) → is_first_of (to_forward me s d) l ≡ true →
+    (me.here ≢ d) × (is_first_of (drop (length (pair_put s d me.log)) (pair_taken s d me.log)) l ≡ true)
+unfolding to_forward
+forwarding me s d l h = let both = first_if _ _ l h in (not_equal _ _ (and_second _ _ both.0), both.1)
+
+-- a list that goes on with a letter
+pub goes_on : (put rest : List Letter) (l : Letter) → is_first_of rest l ≡ true → IsPrefix (put ++ l ∷ []) (put ++ rest)
+goes_on put [] l h = absurd cc
+goes_on put (f ∷ more) l h = record { rest = more; joined = append_assoc put (l ∷ []) more ∙ ap (λ x. put ++ x ∷ more) (sym (same_letter-is f l h)) }
+
+pub next_prefix : (put taken : List Letter) (l : Letter) → IsPrefix put taken → is_first_of (drop (length put) taken) l ≡ true → IsPrefix (put ++ l ∷ []) taken
+next_prefix put taken l p h =
+    let rest : drop (length put) taken ≡ p.rest = ap (drop (length put)) (sym p.joined) ∙ drop-append_seam put p.rest in
+    let P : List Letter → Type 0 = λ xs. is_first_of xs l ≡ true in
+    let Q : List Letter → Type 0 = IsPrefix (put ++ l ∷ []) in
+    subst Q p.joined (goes_on put p.rest l (subst P rest h))
+
+pub is_first : (xs : List Letter) (n : ℕ) (x l : Letter) → slice_get xs n ≡ Some x → is_first_of (drop n xs) l ≡ same_letter x l
+is_first [] n x l h = absurd cc
+is_first (y ∷ xs) zero x l h = let same : y ≡ x = cc in ap (λ z. same_letter z l) same
+is_first (y ∷ xs) (suc n) x l h = is_first xs n x l h
+
+pub none_first : (xs : List Letter) (n : ℕ) (l : Letter) → length xs ≤ n → is_first_of (drop n xs) l ≡ false
+none_first [] zero l h = refl
+none_first [] (suc n) l h = refl
+none_first (y ∷ xs) zero l h = absurd (omega arith)
+none_first (y ∷ xs) (suc n) l h = none_first xs n l (omega arith)
+
+-- whether a rank may have something to forward for a pair: both are ranks, and it isn't the destination
+abbrev pub may_forward : Local → ℕ → ℕ → Bool
+may_forward me s d = is_rank me.layout s && is_rank me.layout d && not (nat_eq me.here d)
+
+-- a rank that took a letter of a pair may forward for it
+pub stands : (me : Local) → IsModest me → (s d n : ℕ) (x : Letter) → d ≢ me.here → slice_get (pair_taken s d me.log) n ≡ Some x → may_forward me s d ≡ true
+stands me modest s d n x not_d h =
+    let taken = found (is_of_pair s d) (IsLawful me) (letters_taken me.log) n x h modest.lawful in
+    let pair = pair_of s d x taken.0 in
+    let R : ℕ → ℕ → Type 0 = λ f t. (nat_lt f me.layout.ranks ≡ true) × (nat_lt t me.layout.ranks ≡ true) in
+    let here : R s d = subst (λ t. R s t) pair.1 (subst (λ f. R f x.to) pair.0 (taken.1.sender, taken.1.destination)) in
+    let other_d : nat_eq me.here d ≡ false = ne_eqb _ _ (λ e. not_d (sym e)) in
+    rw (here.0, here.1, other_d) refl
+
+module _ (me : Local) (to : ℕ) (before : List Letter) (s d n : ℕ) (count : n ≡ length (pair_put s d me.log) + length (of_pair s d before)) where
+  same_rest : drop (length (pair_put s d (having_put me to before).log)) (pair_taken s d (having_put me to before).log) ≡ drop n (pair_taken s d me.log)
+  same_rest =
+      let put : length (pair_put s d (having_put me to before).log) ≡ n = ap length (pair_put-put s d me.log to before) ∙ length-append (pair_put s d me.log) (of_pair s d before) ∙ sym count in
+      ap (λ m. drop m (pair_taken s d (having_put me to before).log)) put ∙ ap (drop n) (pair_taken-put s d me.log to before)
+
+  pub next_held : (x l : Letter) → may_forward me s d ≡ true → slice_get (pair_taken s d me.log) n ≡ Some x →
+      is_first_of (to_forward (having_put me to before) s d) l ≡ same_letter x l
+  unfolding to_forward
+  next_held x l between h = rw between (ap (λ xs. is_first_of xs l) same_rest ∙ is_first (pair_taken s d me.log) n x l h)
+
+  pub next_none : (l : Letter) → length (pair_taken s d me.log) ≤ n → is_first_of (to_forward (having_put me to before) s d) l ≡ false
+  unfolding to_forward
+  next_none l few = either (may_forward me s d)
+    where
+      either : (b : Bool) → is_first_of (if b then drop (length (pair_put s d (having_put me to before).log)) (pair_taken s d (having_put me to before).log) else []) l ≡ false
+      either true = ap (λ xs. is_first_of xs l) same_rest ∙ none_first (pair_taken s d me.log) n l few
+      either false = refl
+
+-- what comes for the rank itself isn't forwarded
+pub not_own : (me : Local) (s d : ℕ) (l : Letter) → d ≡ me.here → is_first_of (to_forward me s d) l ≡ false
+unfolding to_forward
+not_own me s d l e =
+    let same : nat_eq me.here d ≡ true = eq-eqb _ _ (sym e) in
+    either (is_rank me.layout s) (is_rank me.layout d) (nat_eq me.here d) same
+  where
+    either : (a b c : Bool) → c ≡ true → is_first_of (if a && b && not c then drop (length (pair_put s d me.log)) (pair_taken s d me.log) else []) l ≡ false
+    either true true true h = refl
+    either true true false h = absurd cc
+    either true false c h = refl
+    either false b c h = refl

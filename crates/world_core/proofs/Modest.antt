@@ -1,0 +1,3 @@
+pub mod EachEvent
+pub mod FewSent
+pub mod FromHonest

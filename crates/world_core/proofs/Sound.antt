@@ -1,0 +1,2 @@
+pub mod FromHonest
+pub mod OnPath
