@@ -4,12 +4,12 @@ use Rattle.std.specs.List.{AllByRecursion}
 use Rattle.std.specs.Prelude.{IfSome, bytes_eq, ◌==◌, nat_le}
 use Rattle.std.proofs.lemmas.List.Sums.{sum_by-cons}
 use Rattle.msg_codec.specs.Bytes.{AreBytes}
-use Rattle.msg_codec.specs.ItemCount.{item_count_of, spelled_item_count}
 use Rattle.msg_codec.specs.Spelling.{spelled_number}
-use Rattle.msg_codec.specs.Laws.{item_count_again, item_count_spelled}
 use Rattle.msg_codec.specs.declared.letter.Letter.{Letter}
 use Rattle.comm_rank.specs.Fold.{fold_from, handed_from}
 use Rattle.counting_set.specs.Counting.{Counts, held, added, added_if, adds, adds_of, share, count_in, counting_apply, add_letter}
+use Rattle.counting_set.specs.ItemCount.{item_count_of, spelled_item_count}
+use Rattle.counting_set.proofs.ItemCount.Again.{item_count_again, item_count_spelled}
 use Rattle.counting_set.proofs.Adding.{bytes_eq-same, bytes_eq-other, cases_same, count_in-added, count_in-added_other}
 
 -- the contents after these adds

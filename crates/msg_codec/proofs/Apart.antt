@@ -1,13 +1,12 @@
 -- What follows from the laws of reading.
-use Rattle.std.proofs.Common.{◌≡◌, ◌≢◌, [], ℕ, ◌^◌, ◌<◌, ◌≤◌, List, ◌++◌, length, Option, Some, None, Result, Ok, Err, sym, ap, ◌∙◌}
+use Rattle.std.proofs.Common.{◌≡◌, ◌≢◌, [], ℕ, List, ◌++◌, length, Option, Some, None, Result, Ok, Err, sym, ap, ◌∙◌}
 use Rattle.std.proofs.lemmas.List.{append_cancel_left, append-nil}
-use Rattle.std.proofs.lemmas.Option.{none-some, same_Some}
+use Rattle.std.proofs.lemmas.Option.{none-some}
 use Rattle.list_facts.proofs.Outcomes.{same_ok}
 use Rattle.msg_codec.specs.declared.wire.WireFault.{WireFault}
 use Rattle.std.specs.Prelude.{IfOk, IfNone}
 use Rattle.msg_codec.specs.Reading.{whole}
-use Rattle.msg_codec.specs.ItemCount.{spelled_item_count, item_count_of}
-use Rattle.msg_codec.specs.Laws.{item_count_again, whole_again}
+use Rattle.msg_codec.specs.Laws.{whole_again}
 
 value_is : {A : Type 0} (r : Result (A × ℕ) WireFault) (v w : A) (m n : ℕ) → r ≡ Ok (v, m) → r ≡ Ok (w, n) → v ≡ w
 value_is {A} r v w m n e f = ap (λ (p : A × ℕ). p.0) (same_ok r (v, m) (w, n) e f)
@@ -17,12 +16,6 @@ pub apart : {A : Type 0} (reading : List ℕ → Result (A × ℕ) WireFault) (s
 apart reading spelled v w x y p q e =
     let same : v ≡ w = value_is (reading (spelled v ++ x)) v w (length (spelled v)) (length (spelled w)) p (ap reading e ∙ q) in
     (same, append_cancel_left (spelled w) x y (ap (λ z. spelled z ++ x) (sym same) ∙ e))
-
-pub item_count_is : (item other : List ℕ) (count number : ℕ) → length item ≤ 1048576 → length other ≤ 1048576 → count < 2 ^ 64 → number < 2 ^ 64
-    → spelled_item_count item count ≡ spelled_item_count other number → (item ≡ other) × (count ≡ number)
-item_count_is item other count number p q r s e =
-    let same = same_Some (item, count) (other, number) (sym (item_count_again item count p r) ∙ ap item_count_of e ∙ item_count_again other number q s) in
-    (ap (λ (pair : List ℕ × ℕ). pair.0) same, ap (λ (pair : List ℕ × ℕ). pair.1) same)
 
 -- what isn't found in all of the bytes isn't spelled by them
 pub none_is : {A E : Type 0} (reading : List ℕ → Result (A × ℕ) WireFault) (spelled : A → List ℕ) (P : A → Type 0) → ((v : A) (rest : List ℕ) → P v → reading (spelled v ++ rest) ≡ Ok (v, length (spelled v)))

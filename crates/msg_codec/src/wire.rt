@@ -74,9 +74,9 @@ pub trait Wire: Drop {
     ghost too_long_stays: { (bytes more : List ℕ) → AreBytes bytes → reading bytes ≡ Err TooLong → reading (bytes ++ more) ≡ Err TooLong };
 }
 
-/// The number that the bytes begin with, and the length of its spelling.
+/// The number that the bytes begin with, and the length of its encoding; or `WireFault::Short`.
 #[tactic(auto, unfolding(crate::specs::Reading::number_reading))]
-pub(crate) fn number_at(from: &[u8]) -> Result<(u64, usize), WireFault>
+pub fn number_at(from: &[u8]) -> Result<(u64, usize), WireFault>
     ensures exact { IsReading (λ found. found) result (number_reading from.now) }
     ensures front { IfOk result (λ found. take found.1 from.now ≡ spelled_number found.0) }
     ensures within { IfOk result (λ found. found.1 ≤ length from.now) }
@@ -90,9 +90,9 @@ pub(crate) fn number_at(from: &[u8]) -> Result<(u64, usize), WireFault>
     Ok((number, 8))
 }
 
-/// The body that the bytes begin with, and the length of its spelling.
+/// The bytes of the body that the bytes begin with, and the length of its encoding; or the first fault.
 #[tactic(auto, unfolding(crate::specs::Reading::body_reading, crate::specs::Reading::told))]
-pub(crate) fn body_at(from: &[u8]) -> Result<(&[u8], usize), WireFault>
+pub fn body_at(from: &[u8]) -> Result<(&[u8], usize), WireFault>
     ensures exact { IsReading (λ found. (found.0.now, found.1)) result (body_reading from.now) }
     ensures front { IfOk result (λ found. take found.1 from.now ≡ spelled_body found.0.now) }
     ensures within { IfOk result (λ found. found.1 ≤ length from.now) }
