@@ -1,5 +1,5 @@
 use Rattle.std.proofs.Common.{arith, rules, Some, None}
-use Rattle.msg_codec.proofs.Bytes.{are_bytes}
+use Rattle.msg_codec.proofs.Bytes.Slices.{are_bytes}
 use Rattle.counting_set.specs.ItemCount.{item_count_of}
 use Rattle.counting_set.proofs.ItemCount.Whole.{found_is, none_is, short_is}
 use Rattle.counting_set.proofs.item_count.read_item_count.Goals as goal

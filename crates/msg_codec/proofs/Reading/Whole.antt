@@ -1,23 +1,13 @@
--- What follows from the laws of reading.
+-- What is found where a value is looked for in all of the bytes.
 use Rattle.std.proofs.Common.{◌≡◌, ◌≢◌, [], ℕ, List, ◌++◌, length, Option, Some, None, Result, Ok, Err, sym, ap, ◌∙◌}
-use Rattle.std.proofs.lemmas.List.{append_cancel_left, append-nil}
+use Rattle.std.proofs.lemmas.List.{append-nil}
 use Rattle.std.proofs.lemmas.Option.{none-some}
-use Rattle.list_facts.proofs.Outcomes.{same_ok}
 use Rattle.msg_codec.specs.declared.wire.WireFault.{WireFault}
 use Rattle.std.specs.Prelude.{IfOk, IfNone}
 use Rattle.msg_codec.specs.Reading.{whole}
 use Rattle.msg_codec.specs.Laws.{whole_again}
 
-value_is : {A : Type 0} (r : Result (A × ℕ) WireFault) (v w : A) (m n : ℕ) → r ≡ Ok (v, m) → r ≡ Ok (w, n) → v ≡ w
-value_is {A} r v w m n e f = ap (λ (p : A × ℕ). p.0) (same_ok r (v, m) (w, n) e f)
-
-pub apart : {A : Type 0} (reading : List ℕ → Result (A × ℕ) WireFault) (spelled : A → List ℕ) (v w : A) (x y : List ℕ)
-    → reading (spelled v ++ x) ≡ Ok (v, length (spelled v)) → reading (spelled w ++ y) ≡ Ok (w, length (spelled w)) → spelled v ++ x ≡ spelled w ++ y → (v ≡ w) × (x ≡ y)
-apart reading spelled v w x y p q e =
-    let same : v ≡ w = value_is (reading (spelled v ++ x)) v w (length (spelled v)) (length (spelled w)) p (ap reading e ∙ q) in
-    (same, append_cancel_left (spelled w) x y (ap (λ z. spelled z ++ x) (sym same) ∙ e))
-
--- what isn't found in all of the bytes isn't spelled by them
+-- bytes in which none is found encode none
 pub none_is : {A E : Type 0} (reading : List ℕ → Result (A × ℕ) WireFault) (spelled : A → List ℕ) (P : A → Type 0) → ((v : A) (rest : List ℕ) → P v → reading (spelled v ++ rest) ≡ Ok (v, length (spelled v)))
     → (answer : Result (Option A) E) (bytes : List ℕ) → IfOk answer (λ read. read ≡ whole reading bytes) → IfOk answer (λ read. IfNone read ((v : A) → P v → bytes ≢ spelled v))
 none_is reading spelled P again (Err full) bytes e = tt
