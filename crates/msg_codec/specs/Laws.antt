@@ -1,4 +1,4 @@
--- The laws of the spellings: what was spelled is read again, and what is read is spelled so.
+-- The laws of the encodings: what was encoded is decoded again, and what is decoded was encoded so.
 use Rattle.std.proofs.Common.{◌≡◌, lit<, ℕ, ◌+◌, ◌^◌, ◌<◌, ◌≤◌, Bool, true, false, cond, ltb, eqb, Some, None, List, ◌++◌, length, get_or, take, drop, Result, Ok, Err, refl, sym, subst, ◌∙◌, append_assoc, arith, eq-eqb, length-append, length-drop, inl, inr}
 use Rattle.std.specs.Int.{w32, w64, to_le_bytes, from_le_bytes}
 use Rattle.std.proofs.lemmas.Bool.{eqb-true, cases_lt, ltb-false, le-ltb}
@@ -13,7 +13,7 @@ use Rattle.msg_codec.specs.Bytes.{AreBytes}
 use Rattle.msg_codec.specs.Reading.{◌>>=◌, number_reading, told, body_reading, pair_reading, if_whole, whole}
 use Rattle.msg_codec.specs.Spelling.{spelled_number, spelled_body}
 
--- past the end stands 0, which is a byte too
+-- past the end `get_or` gives 0, which is a byte too
 each_byte : (bytes : List ℕ) → AreBytes bytes → (i : ℕ) → get_or bytes i 0 < 256
 each_byte bytes fit i =
     elim (cases_lt i (length bytes)) [
@@ -21,7 +21,7 @@ each_byte bytes fit i =
       | inr le ↦ rw (get_or_past bytes i 0 le) (omega arith)
     ]
 
--- the value of a step that did not fail
+-- the value of a step that didn't fail
 bind_ok : {A B : Type 0} (r : Result A WireFault) (f : A → Result B WireFault) (y : B) → (r >>= f) ≡ Ok y → (x : A) × (r ≡ Ok x) × (f x ≡ Ok y)
 bind_ok (Ok x) f y e = (x, refl, e)
 bind_ok (Err d) f y e = absurd cc
@@ -135,7 +135,7 @@ if_whole_some : {A : Type 0} (len : ℕ) (r : Result (A × ℕ) WireFault) (v : 
 if_whole_some len (Ok (x, i)) v e = some_if (eqb i len) x v i len refl e
 if_whole_some len (Err d) v e = absurd cc
 
--- What is found in all of the bytes is read from their front, and nothing is left.
+-- What all of the bytes encode is decoded from their beginning, and nothing remains.
 pub whole_is : {A : Type 0} (reading : List ℕ → Result (A × ℕ) WireFault) (bytes : List ℕ) (v : A) → whole reading bytes ≡ Some v → reading bytes ≡ Ok (v, length bytes)
 whole_is reading bytes v e = if_whole_some (length bytes) (reading bytes) v e
 

@@ -1,4 +1,4 @@
-//! The laws of the spellings. Each is the contract of a function that does nothing.
+//! The laws of the encodings. Each is the contract of a function that does nothing.
 ghost use Rattle.std.specs.Prelude.{◌≡◌, ℕ, List, ◌++◌, length, All, Ok};
 ghost use Rattle.msg_codec.specs.declared.letter.Letter.{Letter};
 ghost use Rattle.msg_codec.specs.Placed.{Fits};
@@ -6,17 +6,17 @@ ghost use Rattle.msg_codec.specs.Spelling.{spelling};
 
 use crate::Wire;
 
-/// No spelling of a value begins the spelling of another.
+/// No encoding of a value is a prefix of the encoding of another.
 pub fn no_spelling_begins_another<W: Wire>()
     ensures { (v w : W) (x y : List ℕ) → W.in_range v → W.in_range w → W.spelled v ++ x ≡ W.spelled w ++ y → (v ≡ w) × (x ≡ y) }
 {}
 
-/// What was put is read again, whatever follows it.
+/// What was put is decoded again, whatever follows it.
 pub fn what_was_put_is_read_again<W: Wire>()
     ensures { (value : W) (rest : List ℕ) → W.in_range value → W.reading (W.spelled value ++ rest) ≡ Ok (value, length (W.spelled value)) }
 {}
 
-/// No two lists of letters have one spelling.
+/// Different lists of letters have different encodings.
 pub fn no_two_lists_are_spelled_alike()
     ensures { (letters others : List Letter) → All Fits letters → All Fits others → spelling letters ≡ spelling others → letters ≡ others }
 {}

@@ -1,5 +1,5 @@
-//! Letters and the batches that carry them, how they and the values in their bodies are spelled, and
-//! the counter that a rank counts its letters by.
+//! Letters and the batches that carry them, how they and the values in their bodies are encoded, and the
+//! counter with which a rank counts its letters.
 #![tactic(auto)]
 
 mod batch;

@@ -30,7 +30,7 @@ told_is bytes = simp get_or-drop
 sender_is : (bytes : List ℕ) → from_le_bytes w32 (get_or bytes 4 0 ∷ get_or bytes 5 0 ∷ get_or bytes 6 0 ∷ get_or bytes 7 0 ∷ []) ≡ from_le_bytes w32 (drop 4 bytes)
 sender_is bytes = simp get_or-drop
 
--- the fields at their places make the letter
+-- the fields at their places are those of the letter
 pub first_is : (bytes : List ℕ) (to from tag len : ℕ) (body : List ℕ) → to ≡ from_le_bytes w32 (get_or bytes 0 0 ∷ get_or bytes 1 0 ∷ get_or bytes 2 0 ∷ get_or bytes 3 0 ∷ [])
     → from ≡ from_le_bytes w32 (get_or bytes 4 0 ∷ get_or bytes 5 0 ∷ get_or bytes 6 0 ∷ get_or bytes 7 0 ∷ []) → tag ≡ get_or bytes 8 0
     → len ≡ from_le_bytes w32 (get_or bytes 9 0 ∷ get_or bytes 10 0 ∷ get_or bytes 11 0 ∷ get_or bytes 12 0 ∷ []) → body ≡ take len (drop 13 bytes) → made to from tag body ≡ first_letter bytes

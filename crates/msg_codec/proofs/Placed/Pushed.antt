@@ -24,7 +24,7 @@ places_push place (x ∷ letters) l =
     let so_far : (place + length (spelled_letter x)) + length (spelling letters) ≡ place + length (spelling (x ∷ letters)) = omega (arith, length-append (spelled_letter x) (spelling letters)) in
     ap (λ (places : List ℕ). place ∷ places) (rw (← so_far) (places_push (place + length (spelled_letter x)) letters l))
 
--- a batch with one more letter
+-- a batch with one letter more
 pub record IsPushed (bytes starts : List ℕ) (l : Letter) : Type 0 where
   pub letters : letters_at (bytes ++ spelled_letter l) (starts ++ length bytes ∷ []) ≡ letters_at bytes starts ++ l ∷ []
   pub whole : IsBatch (bytes ++ spelled_letter l) (starts ++ length bytes ∷ [])
@@ -40,7 +40,7 @@ pushed bytes starts l batch fits =
       whole = subst (λ (b : List ℕ). IsBatch b (starts ++ length bytes ∷ [])) same_bytes (subst (λ (p : List ℕ). IsBatch (spelling (old ++ l ∷ [])) p) same_starts (is_batch (old ++ l ∷ []) fit));
     }
 
--- bytes and later starts after a push: with the letter last, unless memory ran out, and a batch either way
+-- bytes and later starts after a push: with the letter last, unless out of memory, and a batch either way
 pub record IsPut (answer : Result (Unit {0}) AllocError) (bytes later new newer : List ℕ) (l : Letter) : Type 0 where
   pub letters : OnOk answer (letters_at new (starts_of new newer) ≡ letters_at bytes (starts_of bytes later) ++ l ∷ [])
   pub whole : IsBatch new (starts_of new newer)
@@ -49,7 +49,7 @@ is_put : (done : Unit {0}) (bytes later new newer : List ℕ) (l : Letter) → I
 is_put done bytes later new newer l one new-is starts-are =
     record { letters = rw (starts-are, new-is) one.letters; whole = rw (starts-are, new-is) one.whole }
 
--- the first letter begins at 0, and that is not kept
+-- the first letter begins at 0, which isn't kept
 pub first_put : (answer : Result (Unit {0}) AllocError) (bytes later new : List ℕ) (l : Letter) → IsBatch bytes (starts_of bytes later) → length bytes ≡ 0
     → OnOk answer (new ≡ bytes ++ spelled_letter l) → OnErr answer (new ≡ bytes) → OnOk answer (Fits l) → IsPut answer bytes later new later l
 first_put (Err full) bytes later new l batch none put kept fits = record { letters = tt; whole = rw kept batch }
