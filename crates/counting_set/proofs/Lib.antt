@@ -1,7 +1,2 @@
-pub mod Adding
-pub mod Counted
-pub mod Entries
+pub mod Counts
 pub mod ItemCount
-pub mod Placed
-pub mod Steps
-pub mod Sums
