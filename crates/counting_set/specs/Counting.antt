@@ -2,8 +2,8 @@
 -- letters do to it.
 use Rattle.std.specs.Prelude.{◌≡◌, ◌≢◌, ◌↔◌, ℕ, ◌+◌, ◌-◌, ◌^◌, ◌<◌, ◌==◌, ◌&&◌, nat_le, min, List, [], ◌∷◌, Option, Some, None, if◌then◌else◌, bytes_eq, count_by, length, AllPairs, Contains}
 use Rattle.msg_codec.specs.declared.letter.Letter.{Letter}
-use Rattle.msg_codec.specs.ItemCount.{item_count_of, spelled_item_count}
 use Rattle.comm_rank.specs.Fold.{Applies}
+use Rattle.counting_set.specs.ItemCount.{item_count_of, spelled_item_count}
 
 -- items with their counts
 abbrev pub Counts : Type 0

@@ -6,9 +6,10 @@ ghost use Rattle.msg_codec.specs.Letter.{letter_of};
 ghost use Rattle.counting_set.specs.Counting as spec;
 ghost use Rattle.counting_set.specs.Shown.{ShownTo};
 
+use crate::item_count::read_item_count;
 use comm_rank::{Handler, Outgoing};
 use indexmap::IndexMap;
-use msg_codec::{LetterRef, read_item_count};
+use msg_codec::LetterRef;
 use std::alloc::{AllocError, Global};
 use std::marker::Model;
 

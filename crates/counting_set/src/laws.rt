@@ -4,9 +4,11 @@ ghost use Rattle.std.specs.List.{IsDistinct};
 ghost use Rattle.msg_codec.specs.Bytes.{AreBytes};
 ghost use Rattle.msg_codec.specs.declared.letter.Letter.{Letter};
 ghost use Rattle.comm_rank.specs.Fold.{fold_from, handed_from};
+ghost use Rattle.counting_set.specs.ItemCount.{item_count_of, spelled_item_count};
 ghost use Rattle.counting_set.specs.Counting.{Counts, AreCounted, counting_apply, added, count_in, held, adds, adds_of, add_letter};
 
 use crate::counting::MAX_ITEM;
+use msg_codec::{Body, MAX_BODY, Wire};
 
 /// Where letters add one of each line, a new shard has each line once, with the number of lines that
 /// are equal to it, and nothing else.
@@ -51,4 +53,19 @@ pub fn counting_sends_nothing()
 pub fn an_insert_adds_one()
     ensures adds { (to from : ℕ) (item : List ℕ) → length item ≤ MAX_ITEM → adds (add_letter to from item) ≡ Some (item, 1) }
     ensures limit { MAX_ITEM ≡ 1000100 }
+{}
+
+/// An item and its count are the pair of them.
+pub fn item_counts_are_pairs()
+    ensures { (item : List ℕ) (count : ℕ) → ⟦<(Body, u64) as Wire>⟧.spelled (item, count) ≡ spelled_item_count item count }
+{}
+
+/// An encoded item and count are decoded again.
+pub fn item_counts_are_read_again()
+    ensures { (item : List ℕ) (count : ℕ) → length item ≤ MAX_BODY → count < 2 ^ 64 → item_count_of (spelled_item_count item count) ≡ Some (item, count) }
+{}
+
+/// Different items or counts have different encodings.
+pub fn no_two_item_counts_are_spelled_alike()
+    ensures { (item other : List ℕ) (count number : ℕ) → length item ≤ MAX_BODY → length other ≤ MAX_BODY → count < 2 ^ 64 → number < 2 ^ 64 → spelled_item_count item count ≡ spelled_item_count other number → (item ≡ other) × (count ≡ number) }
 {}
