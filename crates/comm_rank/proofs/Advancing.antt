@@ -1,12 +1,13 @@
 -- Ranks that go on, turn by turn.
 use Rattle.std.proofs.Common.{◌≡◌, ℕ, Some, List, [], ◌++◌, length, get_or, slice_get, refl, sym, ap, ◌∙◌, subst, inl, arith, append-nil}
 use Rattle.std.proofs.lemmas.Option.{same_Some, slice_get-get_or, slice_get_within}
+use Rattle.list_facts.proofs.Places.{same_item, item_there}
 use Rattle.world_core.specs.declared.entry.Entry.{Entry}
 use Rattle.world_core.specs.Pairs.{for_rank}
 use Rattle.world_core.specs.Plain.{Plain, told_by}
 use Rattle.world_core.specs.Post.{SameStops}
 use Rattle.world_core.specs.World.{log_of}
-use Rattle.world_core.proofs.Lists.{prefix_trans}
+use Rattle.list_facts.proofs.Prefix.{prefix_trans}
 use Rattle.comm_rank.specs.Fold.{Applies}
 use Rattle.comm_rank.specs.Rank.{Rank, IsSameRank, halted}
 use Rattle.comm_rank.specs.Settled.{AreSameLinks, AreSameRanks, FailedAt, HasAdvanced, LogsGrow}
@@ -15,12 +16,6 @@ use Rattle.comm_rank.specs.declared.fault.CommFault.{CommFault}
 use Rattle.comm_rank.proofs.Joining.{advanced_more}
 use Rattle.comm_rank.proofs.Same.{same_rank_more, same_rank_none}
 use Rattle.comm_rank.proofs.Stops.{if_stopped}
-
-pub same_item : {X : Type 0} (xs : List X) (k : ℕ) (x y : X) → slice_get xs k ≡ Some x → slice_get xs k ≡ Some y → x ≡ y
-same_item xs k x y e f = same_Some x y (sym e ∙ f)
-
-pub item_there : {X : Type 0} (xs ys : List X) (k : ℕ) (x : X) → slice_get xs k ≡ Some x → length ys ≡ length xs → slice_get ys k ≡ Some (get_or ys k x)
-item_there xs ys k x e all = slice_get-get_or ys k x (let lt = slice_get_within xs k x e in omega (arith, lt, all))
 
 pub advanced_none : {C : Type 0} (apply : Applies C) (me : Rank C) (log : List Entry) → Advanced apply me me log log []
 advanced_none apply me log = record { ran = sym (append-nil _); contents = refl; sent = λ to. sym (append-nil _); run_count = omega arith; sent_count = omega arith }
@@ -32,7 +27,7 @@ pub same_links_none : (links : Plain) → AreSameLinks links links
 same_links_none links = record { layout = refl; scheme = refl; ring = refl; batches = refl }
 
 pub logs_grow_more : (x y z : Plain) → LogsGrow x y → LogsGrow y z → LogsGrow x z
-logs_grow_more x y z first second rank = prefix_trans (log_of x.world rank) (log_of y.world rank) (log_of z.world rank) (first rank) (second rank)
+logs_grow_more x y z first second rank = prefix_trans (first rank) (second rank)
 
 pub same_links_more : (x y z : Plain) → AreSameLinks x y → AreSameLinks y z → AreSameLinks x z
 same_links_more x y z first second = record {

@@ -20,11 +20,13 @@ use Rattle.world_core.specs.Log.{letters_taken}
 use Rattle.world_core.specs.Modest.{IsModest}
 use Rattle.world_core.specs.Pairs.{arrived, for_rank, is_data, is_of_pair, of_pair, of_sender, own, pair_put, pair_taken}
 use Rattle.world_core.specs.Sound.{IsOnPath}
-use Rattle.world_core.proofs.Batch.{pair_put-took, pair_taken-took}
-use Rattle.world_core.proofs.Entries.{letters_put-took, letters_taken-took}
-use Rattle.world_core.proofs.Lists.{all_second, all_weaker, filter_none, and_first, and_second}
-use Rattle.world_core.proofs.Only.{all_taken}
-use Rattle.comm_rank.specs.Agrees.{IsSublist}
+use Rattle.world_core.proofs.Pairs.Appended.{pair_put-took, pair_taken-took}
+use Rattle.world_core.proofs.Log.Appended.{letters_put-took, letters_taken-took}
+use Rattle.list_facts.proofs.Elements.{all_second, all_weaker}
+use Rattle.list_facts.proofs.Filters.{filter_none}
+use Rattle.list_facts.proofs.Tests.{and_first, and_second}
+use Rattle.world_core.proofs.Log.ByLink.{all_taken}
+use Rattle.list_facts.specs.Sublist.{IsSublist}
 use Rattle.comm_rank.specs.Rank.{Rank, ran_at}
 use Rattle.comm_rank.specs.Running.{IsFor, IsOf}
 
@@ -136,23 +138,3 @@ pub ran_all : {C : Type 0} (me : Rank C) (log : List Entry) → me.waiting ≡ [
 ran_all me log none = ran_is me log (arrived me.here log) [] (sym (append-nil _)) (ap (for_rank me.here) none)
 
 -- ---- lists with elements left out
-
-sublist_longer : {X : Type 0} (part : List X) (y : X) (whole : List X) → IsSublist part whole → IsSublist part (y ∷ whole)
-sublist_longer [] y whole h = tt
-sublist_longer (x ∷ part) y whole h = inr h
-
-sublist_same : {X : Type 0} (xs : List X) → IsSublist xs xs
-sublist_same [] = tt
-sublist_same (x ∷ xs) = inl (refl, sublist_same xs)
-
-sublist_end : {X : Type 0} (whole more : List X) → IsSublist more (whole ++ more)
-sublist_end [] more = sublist_same more
-sublist_end (y ∷ whole) more = sublist_longer more y (whole ++ more) (sublist_end whole more)
-
-pub sublist_more : {X : Type 0} (part whole more : List X) → IsSublist part whole → IsSublist (part ++ more) (whole ++ more)
-sublist_more [] whole more h = sublist_end whole more
-sublist_more (x ∷ part) [] more h = absurd h
-sublist_more (x ∷ part) (y ∷ whole) more h = elim h [
-  | inl same ↦ inl (same.0, sublist_more part whole more same.1)
-  | inr later ↦ inr (sublist_more (x ∷ part) whole more later)
-]

@@ -14,8 +14,10 @@ use Rattle.world_core.specs.Local.{Local, is_rank, to_forward}
 use Rattle.world_core.specs.Log.{batches_taken, letters_of, letters_taken}
 use Rattle.world_core.specs.Modest.{IsModest}
 use Rattle.world_core.specs.Pairs.{is_data, is_of_pair, pair_put, pair_taken}
-use Rattle.world_core.proofs.Lists.{all_weaker, and_first, and_second, filter_none}
-use Rattle.world_core.proofs.Only.{all_taken}
+use Rattle.list_facts.proofs.Elements.{all_weaker}
+use Rattle.list_facts.proofs.Filters.{filter_none}
+use Rattle.list_facts.proofs.Tests.{and_first, and_second}
+use Rattle.world_core.proofs.Log.ByLink.{all_taken}
 
 -- the only link of such a path leads to the destination
 one_link : (next d s a b : ℕ) (more : List ℕ) → next ≡ d → list_any (λ (link : ℕ × ℕ). nat_eq link.0 a && nat_eq link.1 b) (links_from s (next ∷ (if nat_eq next d then [] else more))) ≡ true → b ≡ d

@@ -13,7 +13,9 @@ use Rattle.comm_rank.specs.Held.{Gains}
 use Rattle.comm_rank.specs.Rank.{IsSameRank, Rank, folded, handed, held_letters}
 use Rattle.comm_rank.specs.Turns.{HasBegun, IsCause, IsFullBehind}
 use Rattle.ygm_route.specs.Layout.{Shape}
-use Rattle.world_core.proofs.Lists.{all_append, all_second}
+use Rattle.list_facts.proofs.Elements.{all_append, all_second}
+use Rattle.list_facts.proofs.Elements.{all_take}
+use Rattle.list_facts.proofs.Places.{item_first}
 use Rattle.comm_rank.proofs.Gaining.{gains_none, gains_more}
 use Rattle.comm_rank.specs.Running.{IsFor, IsOf, HasRunAll, IsStuck, RanFirst, StuckFirst, StuckIn}
 use Rattle.comm_rank.specs.Sends.{IsData}
@@ -34,16 +36,7 @@ pub given_of : (ranks here : ℕ) (outs : List Outbound) → AllByRecursion (IsD
 given_of ranks here [] h = tt
 given_of ranks here (o ∷ outs) h = (record { sender = refl; tag = lt-ltb o.tag 240 h.0.tag }, given_of ranks here outs h.1)
 
-pub all_take : {X : Type 0} (P : X → Type 0) (k : ℕ) (xs : List X) → AllByRecursion P xs → AllByRecursion P (take k xs)
-all_take P zero xs h = tt
-all_take P (suc k) [] h = tt
-all_take P (suc k) (x ∷ xs) h = (h.0, all_take P k xs h.1)
-
 -- ---- faults
-
-pub on_err : {A E : Type 0} (r : Result A E) (P : Type 0) → P → OnErr r P
-on_err (Ok a) P p = tt
-on_err (Err e) P p = p
 
 pub if_full : {P Q : ℕ → Type 0} (fault : CommFault) → ((at : ℕ) → P at → Q at) → IfCountFull fault P → IfCountFull fault Q
 if_full Stopped more h = tt
@@ -62,10 +55,6 @@ cause_on apply old mid new most fault cause = record {
   gave = cause.gave;
   never_stopped = cause.never_stopped;
 }
-
-pub first_of : (waiting : List Letter) (l : Letter) → slice_get waiting 0 ≡ Some l → waiting ≡ l ∷ drop 1 waiting
-first_of [] l h = absurd cc
-first_of (x ∷ waiting) l h = let same : x ≡ l = cc in ap (λ y. y ∷ waiting) same
 
 -- ---- one letter
 
@@ -118,7 +107,7 @@ module _ {C : Type 0} (apply : Applies C) (was old new : Rank C) (e : was ≡ ol
         let all : map (letter_by was.here) outs ≡ handed apply was (l ∷ []) = given_is ∙ sym (append-nil (given_by apply was.here was.layout.ranks was.contents l)) in
         subst (λ (me : Rank C). RanFirst apply me new) e (record {
           letter = l;
-          first = first_of was.waiting l first ∙ ap (λ w. l ∷ w) (sym rest);
+          first = item_first was.waiting l first ∙ ap (λ w. l ∷ w) (sym rest);
           ran = record {
             contents = made;
             held = subst (Gains (held_letters was) (held_letters new)) all held;

@@ -4,7 +4,7 @@ use Rattle.std.proofs.lemmas.List.Elements.{filter-append}
 use Rattle.msg_codec.specs.Count.{Count}
 use Rattle.msg_codec.specs.declared.letter.Letter.{Letter}
 use Rattle.world_core.specs.Pairs.{is_data, is_of_pair, of_pair, of_sender}
-use Rattle.world_core.proofs.Steps.{taken_more}
+use Rattle.list_facts.proofs.Steps.{taken_more}
 use Rattle.comm_rank.specs.Held.{Gains}
 
 pub gains_none : (held : List Letter) → Gains held held []

@@ -7,7 +7,9 @@ use Rattle.std.proofs.lemmas.List.Elements.{filter-append}
 use Rattle.msg_codec.specs.declared.letter.Letter.{Letter}
 use Rattle.world_core.specs.Log.{letters_of}
 use Rattle.world_core.specs.Pairs.{is_data, is_of_pair, of_pair, of_sender}
-use Rattle.world_core.proofs.Lists.{all_append, all_weaker, filter_none, and_second}
+use Rattle.list_facts.proofs.Elements.{all_append, all_weaker}
+use Rattle.list_facts.proofs.Filters.{filter_none}
+use Rattle.list_facts.proofs.Tests.{and_second}
 use Rattle.comm_rank.specs.Held.{Gains, held_for}
 use Rattle.comm_rank.specs.Store.{AreApart, AreHeld, IsHeldFor, Loses, holding}
 

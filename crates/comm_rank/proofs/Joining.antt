@@ -11,7 +11,7 @@ use Rattle.world_core.specs.Log.{batches_taken, letters_taken, letters_taken_by}
 use Rattle.world_core.specs.Pairs.{for_rank, is_of_pair, of_pair}
 use Rattle.world_core.specs.Post.{Told}
 use Rattle.world_core.specs.Rising.{Rose}
-use Rattle.world_core.proofs.Lists.{all_append, all_weaker}
+use Rattle.list_facts.proofs.Elements.{all_append, all_weaker, all_at}
 use Rattle.comm_rank.specs.Fold.{Applies}
 use Rattle.comm_rank.specs.Rank.{Rank, IsSameRank, handed, ran_at, sent_to}
 use Rattle.comm_rank.specs.declared.fault.CommFault.{CommFault}
@@ -20,11 +20,6 @@ use Rattle.comm_rank.specs.Turns.{Advanced, CutOff, FullAtFirst, IsTake, LookedA
 use Rattle.comm_rank.proofs.Folds.{begun_same, cause_on, folded_on, full_later, handed_on, if_full}
 
 -- ---- in the order of ranks
-
-all_at : {X : Type 0} (P : X → Type 0) (xs : List X) → AllByRecursion P xs → (k : ℕ) (d : X) → k < length xs → P (get_or xs k d)
-all_at P [] h k d within = absurd (omega (arith, within))
-all_at P (x ∷ xs) h zero d within = h.0
-all_at P (x ∷ xs) h (suc k) d within = all_at P xs h.1 k d (omega (arith, within))
 
 abbrev Before : Entry → Entry → Type 0
 Before one later = other_end one < other_end later

@@ -19,9 +19,10 @@ use Rattle.comm_rank.specs.Rank.{Rank, held_letters, ran_at, ran_from, sent_to}
 use Rattle.comm_rank.specs.Settled.{AreRanks, AreSameLinks, AreSameRanks, FailedAt, IsRankOf, NoneLost}
 use Rattle.comm_rank.specs.Turns.{CutOff}
 use Rattle.comm_rank.specs.declared.fault.CommFault.{CommFault}
-use Rattle.comm_rank.proofs.Advancing.{item_there, same_item}
+use Rattle.list_facts.proofs.Places.{item_there, same_item}
 use Rattle.comm_rank.proofs.Arriving.{ran_all, ran_is}
-use Rattle.comm_rank.proofs.Beginnings.{filter_within, pair_of_rank}
+use Rattle.list_facts.proofs.Filters.{filter_within}
+use Rattle.comm_rank.proofs.Beginnings.{pair_of_rank}
 use Rattle.comm_rank.proofs.Joining.{taken_append}
 use Rattle.comm_rank.proofs.Loading.{put_is, taken_is}
 use Rattle.comm_rank.proofs.PutOut.{same_taken}
@@ -38,8 +39,8 @@ taken_then_link world w direct some from to =
     let put = put_is world w direct some from to in
     let taken = batches_taken from (log_of world to) in
     let agree = w.sound.agree from to in
-    let rest : agree.0 ≡ link world from to = sym (drop-append_seam taken agree.0) ∙ ap (drop (length taken)) agree.1 in
-    let all : batches_put to (log_of world from) ≡ taken ++ link world from to = sym agree.1 ∙ ap (λ xs. taken ++ xs) rest in
+    let rest : agree.rest ≡ link world from to = sym (drop-append_seam taken agree.rest) ∙ ap (drop (length taken)) agree.joined in
+    let all : batches_put to (log_of world from) ≡ taken ++ link world from to = sym agree.joined ∙ ap (λ xs. taken ++ xs) rest in
     let letters : pair_put from to (log_of world from) ≡ letters_of taken ++ letters_of (link world from to) =
     put ∙ ap letters_of all ∙ flat_map-append (λ b. b) taken (link world from to) in
     let came : of_pair from to (letters_of taken) ≡ pair_taken from to (log_of world to) =

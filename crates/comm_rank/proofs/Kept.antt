@@ -2,7 +2,7 @@
 use Rattle.std.proofs.Common.{refl, ◌∙◌}
 use Rattle.world_core.specs.Post.{Told}
 use Rattle.world_core.specs.Rules.{IsHonest}
-use Rattle.world_core.proofs.Posts.NeverFall.{never_fall_refl, never_fall_trans}
+use Rattle.world_core.proofs.Posts.CountsNeverFall.{never_fall_refl, never_fall_trans}
 use Rattle.comm_rank.specs.Moves.{MoveKeeps}
 use Rattle.comm_rank.specs.Rank.{IsSameRank, Rank, local_of}
 use Rattle.comm_rank.specs.Running.{TakesKeep, WorkKeeps}

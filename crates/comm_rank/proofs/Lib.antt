@@ -19,7 +19,6 @@ pub mod Rounds
 pub mod Same
 pub mod Sending
 pub mod Settling
-pub mod Singles
 pub mod Standing
 pub mod Stops
 pub mod Taken

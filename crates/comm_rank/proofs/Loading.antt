@@ -5,6 +5,7 @@ use Rattle.std.specs.List.{AllByRecursion, cons_option}
 use Rattle.std.proofs.Math.Seq.{drop-append_seam}
 use Rattle.std.proofs.lemmas.Grind.{flat_map-append}
 use Rattle.std.proofs.lemmas.List.Elements.{filter_map-append}
+use Rattle.list_facts.proofs.Filters.{filter_all}
 use Rattle.msg_codec.specs.declared.letter.Letter.{Letter}
 use Rattle.ygm_route.specs.declared.scheme.Scheme.{Scheme}
 use Rattle.ygm_route.specs.declared.scheme.Scheme.TheVariants.{Direct}
@@ -15,17 +16,14 @@ use Rattle.world_core.specs.Log.{batches_put, batches_taken, letters_of, took_fr
 use Rattle.world_core.specs.Modest.{IsWorld}
 use Rattle.world_core.specs.Pairs.{is_data, is_of_pair, pair_put, pair_taken}
 use Rattle.world_core.specs.World.{Logs, link, local, log_of}
-use Rattle.world_core.proofs.Broken.{unbroken}
-use Rattle.world_core.proofs.Carried.{IsCarried}
-use Rattle.world_core.proofs.Kept.{base_of}
-use Rattle.world_core.proofs.Lists.{all_prefix, all_second, all_weaker, and_first, and_second}
-use Rattle.world_core.proofs.OnPath.{carried_put, carried_taken}
-use Rattle.world_core.proofs.Only.{only_put, only_taken}
+use Rattle.world_core.proofs.Deeds.Unbroken.{unbroken}
+use Rattle.world_core.proofs.Deeds.Sent.{IsCarried}
+use Rattle.world_core.proofs.Modest.EachEvent.{base_of}
+use Rattle.list_facts.proofs.Elements.{all_prefix, all_second, all_weaker}
+use Rattle.list_facts.proofs.Tests.{and_first, and_second}
+use Rattle.world_core.proofs.Sound.OnPath.{carried_put, carried_taken}
+use Rattle.world_core.proofs.Log.ByLink.{only_put, only_taken}
 use Rattle.comm_rank.proofs.Arriving.{crossed_direct, crossed_from}
-
-filter_all : {X : Type 0} (test : X → Bool) (xs : List X) → AllByRecursion (λ x. test x ≡ true) xs → filter test xs ≡ xs
-filter_all test [] h = refl
-filter_all test (x ∷ xs) h = rw h.0 (ap (λ ys. x ∷ ys) (filter_all test xs h.1))
 
 abbrev HasSome : List Letter → Type 0
 HasSome batch = 1 ≤ length batch
@@ -92,9 +90,9 @@ module _ (world : Logs) (w : IsWorld world) (direct : world.scheme ≡ Direct) (
   pub empty_link : (c d : ℕ) → link world c d ≡ [] → length (pair_put c d (log_of world c)) ≤ length (pair_taken c d (log_of world d))
   empty_link c d none =
       let agree = w.sound.agree c d in
-      let rest : drop (length (batches_taken c (log_of world d))) (batches_taken c (log_of world d) ++ agree.0) ≡ agree.0 = drop-append_seam (batches_taken c (log_of world d)) agree.0 in
-      let nothing : agree.0 ≡ [] = sym rest ∙ ap (drop (length (batches_taken c (log_of world d)))) agree.1 ∙ none in
-      let same : batches_taken c (log_of world d) ≡ batches_put d (log_of world c) = sym (append-nil _) ∙ ap (λ xs. batches_taken c (log_of world d) ++ xs) (sym nothing) ∙ agree.1 in
+      let rest : drop (length (batches_taken c (log_of world d))) (batches_taken c (log_of world d) ++ agree.rest) ≡ agree.rest = drop-append_seam (batches_taken c (log_of world d)) agree.rest in
+      let nothing : agree.rest ≡ [] = sym rest ∙ ap (drop (length (batches_taken c (log_of world d)))) agree.joined ∙ none in
+      let same : batches_taken c (log_of world d) ≡ batches_put d (log_of world c) = sym (append-nil _) ∙ ap (λ xs. batches_taken c (log_of world d) ++ xs) (sym nothing) ∙ agree.joined in
       omega (arith, ap length (put_is c d), ap length (taken_is c d), ap (λ bs. length (letters_of bs)) same)
 
   -- a link carried no more batches than letters
@@ -102,7 +100,7 @@ module _ (world : Logs) (w : IsWorld world) (direct : world.scheme ≡ Direct) (
   carried_few c d within = omega (arith, ap length (put_is c d), as_many _ (put_some c d within))
 
   taken_some : (c d : ℕ) → c < world.layout.ranks → AllByRecursion HasSome (batches_taken c (log_of world d))
-  taken_some c d within = all_prefix HasSome _ _ (w.sound.agree c d) (put_some c d within)
+  taken_some c d within = all_prefix HasSome (w.sound.agree c d) (put_some c d within)
 
 -- a batch more was taken, so a letter more
 pub one_more : (old new : Logs) (v : IsWorld old) (w : IsWorld new) (direct : old.scheme ≡ Direct) (direct' : new.scheme ≡ Direct) (some : 0 < old.layout.ranks) (some' : 0 < new.layout.ranks) (c d : ℕ) → c < new.layout.ranks →

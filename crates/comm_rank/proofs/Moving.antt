@@ -4,6 +4,7 @@ use Rattle.std.proofs.lemmas.Bool.{cases_eq, or_cases}
 use Rattle.std.proofs.lemmas.Grind.{flat_map-append}
 use Rattle.std.proofs.lemmas.List.Elements.{filter-append}
 use Rattle.std.proofs.lemmas.Option.{slice_get_within}
+use Rattle.std.proofs.lemmas.List.{nil_from_length}
 use Rattle.msg_codec.specs.declared.letter.Letter.{Letter}
 use Rattle.ygm_route.specs.declared.scheme.Scheme.TheVariants.{Direct}
 use Rattle.ygm_route.specs.Layout.{Shape}
@@ -13,7 +14,7 @@ use Rattle.world_core.specs.Pairs.{for_rank, is_of_pair, of_pair, of_sender, own
 use Rattle.world_core.specs.Plain.{Plain, told_by}
 use Rattle.world_core.specs.Post.{SamePost}
 use Rattle.world_core.specs.World.{link, log_of}
-use Rattle.world_core.proofs.Counted.{pair_of_sender}
+use Rattle.world_core.proofs.Pairs.OfPair.{pair_of_sender}
 use Rattle.comm_rank.specs.declared.turn.Turn.{Turn}
 use Rattle.comm_rank.specs.Agrees.{Agrees}
 use Rattle.comm_rank.specs.Fold.{Applies}
@@ -21,27 +22,12 @@ use Rattle.comm_rank.specs.Rank.{Rank, IsSameRank, handed, held_letters, sent_to
 use Rattle.comm_rank.specs.Settled.{AreRanks, AreSameLinks, AreSameRanks, HasAdvanced, IsLoaded, IsRankOf, NeverLess, SameLogs, TurnMoves, Untouched, held_in, sent_length, taken_length}
 use Rattle.comm_rank.specs.Store.{AreApart}
 use Rattle.comm_rank.specs.Turns.{Advanced, LookedAt, NoneOrFull, Turned}
-use Rattle.comm_rank.proofs.Advancing.{same_item, stands}
+use Rattle.list_facts.proofs.Places.{same_item, item_set, item_kept}
+use Rattle.comm_rank.proofs.Advancing.{stands}
 use Rattle.comm_rank.proofs.Loading.{carried_few, empty_link, one_more}
 use Rattle.comm_rank.proofs.Rounds.{same_taken}
 
 -- ---- lists with one element changed
-
-pub item_set : {X : Type 0} (xs : List X) (k : ℕ) (y : X) → k < length xs → slice_get (set xs k y) k ≡ Some y
-item_set [] k y lt = absurd (omega (arith, lt))
-item_set (x ∷ xs) zero y lt = refl
-item_set (x ∷ xs) (suc k) y lt = item_set xs k y (omega (arith, lt))
-
-pub item_kept : {X : Type 0} (xs : List X) (k j : ℕ) (y : X) → j ≢ k → slice_get (set xs k y) j ≡ slice_get xs j
-item_kept [] k j y ne = refl
-item_kept (x ∷ xs) zero zero y ne = absurd (ne refl)
-item_kept (x ∷ xs) zero (suc j) y ne = refl
-item_kept (x ∷ xs) (suc k) zero y ne = refl
-item_kept (x ∷ xs) (suc k) (suc j) y ne = item_kept xs k j y (λ e. ne (ap suc e))
-
-none_of : {X : Type 0} (xs : List X) → length xs ≡ 0 → xs ≡ []
-none_of [] e = refl
-none_of (x ∷ xs) e = absurd (omega (arith, e))
 
 pub sent_at : {C : Type 0} (comms : List (Rank C)) (links : Plain) (rank to : ℕ) (me : Rank C) → slice_get comms rank ≡ Some me → me.here ≡ rank →
     sent_length comms links rank to ≡ length (sent_to me (log_of links.world rank) to)
@@ -259,8 +245,8 @@ module _ {C : Type 0} (apply : Applies C) (start : C → C) (comms : List (Rank 
             | inr ne ↦ at.same.other_logs other ne
             | inl is ↦
                 let none = still e in
-                let taken : at.turned.taken ≡ [] = none_of at.turned.taken (omega (arith, at.turned.took, none.0)) in
-                let placed : at.turned.placed ≡ [] = none_of at.turned.placed (omega (arith, at.turned.put, none.1)) in
+                let taken : at.turned.taken ≡ [] = nil_from_length at.turned.taken (omega (arith, at.turned.took, none.0)) in
+                let placed : at.turned.placed ≡ [] = nil_from_length at.turned.placed (omega (arith, at.turned.put, none.1)) in
                 let P : ℕ → Type 0 = λ r. log_of new.world r ≡ log_of old.world r in
                 subst P (sym is) (log_now ∙ ap (λ xs. log_of old.world rank ++ (xs ++ at.turned.placed)) taken ∙ ap (λ xs. log_of old.world rank ++ xs) placed ∙ append-nil (log_of old.world rank))
           ] in

@@ -10,7 +10,7 @@ use Rattle.world_core.specs.Local.{is_rank}
 use Rattle.world_core.specs.Plain.{Plain, told_by}
 use Rattle.world_core.specs.Post.{SamePost}
 use Rattle.world_core.specs.declared.entry.Entry.{Entry}
-use Rattle.world_core.specs.Sound.{IsPrefix}
+use Rattle.list_facts.specs.Prefix.{IsPrefix}
 use Rattle.world_core.specs.World.{log_of}
 use Rattle.comm_rank.specs.declared.fault.CommFault.{CommFault}
 use Rattle.comm_rank.specs.declared.fault.CommFault.TheVariants.{Stopped, CountFull, NoMemory}
@@ -21,11 +21,13 @@ use Rattle.comm_rank.specs.Fold.{Applies}
 use Rattle.comm_rank.specs.Rank.{Rank, IsSameRank}
 use Rattle.comm_rank.specs.Settled.{AreRanks, FailedAt, HaltedAt, IsRankOf, LastTurn, LogsGrow}
 use Rattle.comm_rank.specs.Turns.{CutOff, FullAtFirst, Gained, HasEnded, HasFailed, HasHalted, KeepsPost}
-use Rattle.comm_rank.proofs.Advancing.{advanced_none, cut_at_once, same_item}
+use Rattle.list_facts.proofs.Places.{same_item}
+use Rattle.comm_rank.proofs.Advancing.{advanced_none, cut_at_once}
 use Rattle.comm_rank.proofs.Folds.{full_at}
 use Rattle.comm_rank.proofs.Same.{same_rank_none}
 use Rattle.comm_rank.proofs.Turning.{unless_stopped_then}
-use Rattle.comm_rank.proofs.Moving.{TurnAt, item_set, others_go_on, others_stand}
+use Rattle.list_facts.proofs.Places.{item_set}
+use Rattle.comm_rank.proofs.Moving.{TurnAt, others_go_on, others_stand}
 use Rattle.comm_rank.proofs.Stops.{if_stopped}
 
 module _ {C : Type 0} (apply : Applies C) (start : C → C) (comms : List (Rank C)) (links : Plain) (rank : ℕ) (ranks : AreRanks apply start comms links) (within : rank < length comms) (read : Rank C) where
@@ -63,7 +65,7 @@ turn_at apply start me now old new turn rank here same_rank ended same =
 -- ---- what its log gains
 
 longer : (before after taken placed : List Entry) → Gained before after taken placed → IsPrefix before after
-longer before after taken placed gained = (taken ++ placed, sym (append_assoc before taken placed) ∙ sym gained.log)
+longer before after taken placed gained = record { rest = taken ++ placed; joined = sym (append_assoc before taken placed) ∙ sym gained.log }
 
 module _ {C : Type 0} (apply : Applies C) (start : C → C) (me now : Rank C) (old new : Plain) where
   abbrev Before : List Entry
@@ -78,7 +80,7 @@ module _ {C : Type 0} (apply : Applies C) (start : C → C) (me now : Rank C) (o
   grows : (r : Result Turn CommFault) → IfOk r (HasEnded apply start me now (told_by old) (told_by new)) → IfErr r (λ fault. IfStopped fault (HasHalted me now (told_by old) (told_by new))) →
       IfErr r (λ fault. UnlessStopped fault (HasFailed apply me now (told_by old) (told_by new) fault)) → IsPrefix Before After
   grows (Ok turn) ended halted failed = longer Before After ended.turned.taken ended.turned.placed ended.turned.gained
-  grows (Err Stopped) ended halted failed = ([], append-nil Before ∙ sym halted.log)
+  grows (Err Stopped) ended halted failed = record { rest = []; joined = append-nil Before ∙ sym halted.log }
   grows (Err (CountFull at)) ended halted failed = grew failed.was_cut.cut_off
   grows (Err NoMemory) ended halted failed = grew failed.was_cut.cut_off
 
@@ -86,7 +88,7 @@ module _ {C : Type 0} (apply : Applies C) (start : C → C) (me now : Rank C) (o
       IfOk r (HasEnded apply start me now (told_by old) (told_by new)) → IfErr r (λ fault. IfStopped fault (HasHalted me now (told_by old) (told_by new))) →
       IfErr r (λ fault. UnlessStopped fault (HasFailed apply me now (told_by old) (told_by new) fault)) → LogsGrow old new
   logs_grow same r ended halted failed rank = elim (cases_eq rank me.here) [
-    | inr ne ↦ ([], append-nil (log_of old.world rank) ∙ sym (same.other_logs rank ne))
+    | inr ne ↦ record { rest = []; joined = append-nil (log_of old.world rank) ∙ sym (same.other_logs rank ne) }
     | inl is ↦ let P : ℕ → Type 0 = λ h. IsPrefix (log_of old.world h) (log_of new.world h) in subst P (sym is) (grows r ended halted failed)
   ]
 

@@ -14,9 +14,10 @@ use Rattle.world_core.specs.Pairs.{arrived, for_rank, of_pair, of_sender, own}
 use Rattle.world_core.specs.Post.{SamePost, Told, local_at}
 use Rattle.world_core.specs.Rules.{IsHonest}
 use Rattle.world_core.specs.Sound.{IsOnPath}
-use Rattle.world_core.proofs.Lists.{all_weaker}
-use Rattle.world_core.proofs.Entries.{letters_taken-put, batches_taken-put}
-use Rattle.comm_rank.specs.Agrees.{Agrees, Belongs, IsSublist}
+use Rattle.list_facts.proofs.Elements.{all_weaker}
+use Rattle.world_core.proofs.Log.Appended.{letters_taken-put, batches_taken-put}
+use Rattle.list_facts.specs.Sublist.{IsSublist}
+use Rattle.comm_rank.specs.Agrees.{Agrees, Belongs}
 use Rattle.comm_rank.specs.Fold.{Applies, fold_from, handed_from}
 use Rattle.comm_rank.specs.declared.fault.CommFault.{CommFault}
 use Rattle.comm_rank.specs.Moves.{HasPutAll, HasPutEach, MayPut, Moved, PutAllFailed, PutOut, PutsFailed}

@@ -19,12 +19,13 @@ use Rattle.world_core.specs.declared.post.PutBack.TheVariants.{Full, NoMemory}
 use Rattle.world_core.specs.Rising.{Rose}
 use Rattle.world_core.specs.Rules.{first_broken, bad_tag, wrong_hop, not_held, too_many_sent, IsHonest}
 use Rattle.world_core.specs.Rules.Deed.{Puts}
-use Rattle.world_core.proofs.Alone.{honest_more}
-use Rattle.world_core.proofs.Batch.{pair_put-put, own-put}
-use Rattle.world_core.proofs.Lists.{all_append}
+use Rattle.world_core.proofs.Deeds.Honest.{honest_more}
+use Rattle.world_core.proofs.Pairs.Appended.{pair_put-put, own-put}
+use Rattle.list_facts.proofs.Elements.{all_append}
 use Rattle.comm_rank.proofs.Same.{same_then}
-use Rattle.world_core.proofs.Posts.NeverFall.{never_fall_refl, never_fall_trans}
-use Rattle.world_core.proofs.Tried.{table, hop_right, held_own, not_too_many}
+use Rattle.world_core.proofs.Posts.CountsNeverFall.{never_fall_refl, never_fall_trans}
+use Rattle.world_core.proofs.Deeds.EachLetter.{hop_right, held_own, not_too_many}
+use Rattle.world_core.proofs.Deeds.Table.{table}
 use Rattle.comm_rank.specs.Held.{NoneClosed, held_for}
 use Rattle.comm_rank.specs.Moves.{MayPut, Moved, MoveKeeps, PutsOne, put_count}
 use Rattle.comm_rank.specs.Store.{IsHeldFor, Loses, OthersUnchanged}
@@ -211,10 +212,6 @@ found_full {P} back batch is h = let Q : PutBack → Type 0 = λ b. IfFull (Err 
 
 pub had_no_memory : {P : Type 0} (back : PutBack) (batch : List Letter) → back ≡ NoMemory batch → IfNoMemory (Err back) P → P
 had_no_memory {P} back batch is h = let Q : PutBack → Type 0 = λ b. IfNoMemory (Err b) P in subst Q is h
-
-pub none_remains : (xs : List Letter) → length xs ≡ 0 → xs ≡ []
-none_remains [] e = refl
-none_remains (x ∷ xs) e = absurd (omega (arith, e))
 
 -- no link was found full before this one
 pub found_full_at_last : (b : Bool) (here to : ℕ) (before after : List (List Letter)) (old mid new : Told) → b ≡ false → ((rank : ℕ) → mid.serves rank ≡ old.serves rank) → SameFulls old mid →

@@ -6,7 +6,7 @@ use Rattle.world_core.specs.Log.{batches_put, batches_taken}
 use Rattle.world_core.specs.Pairs.{pair_taken}
 use Rattle.world_core.specs.Plain.{Plain}
 use Rattle.world_core.specs.World.{link, log_of}
-use Rattle.world_core.proofs.Lists.{or_false_first, or_false_second}
+use Rattle.list_facts.proofs.Tests.{or_false_first, or_false_second}
 use Rattle.comm_rank.specs.Rank.{Rank}
 use Rattle.comm_rank.specs.Settled.{AllTaken, IsLoaded, IsNear, IsNearer, NeverLess, RoundMoves, SameLogs, TurnMoves, Untouched, sent_length, taken_length}
 

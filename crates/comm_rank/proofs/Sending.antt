@@ -11,18 +11,14 @@ use Rattle.world_core.specs.Local.{Local}
 use Rattle.world_core.specs.Log.{letters_of}
 use Rattle.world_core.specs.Modest.{IsModest}
 use Rattle.world_core.specs.Pairs.{is_data, is_of_pair, of_pair, of_sender, pair_put}
-use Rattle.world_core.proofs.Lists.{and_first, and_second}
-use Rattle.comm_rank.specs.Agrees.{Agrees, IsSublist}
+use Rattle.list_facts.proofs.Tests.{and_first, and_second}
+use Rattle.list_facts.specs.Sublist.{IsSublist}
+use Rattle.list_facts.proofs.Sublist.{sublist_longer, sublist_nil}
+use Rattle.comm_rank.specs.Agrees.{Agrees}
 use Rattle.comm_rank.specs.Fold.{Applies}
 use Rattle.comm_rank.specs.Held.{Gains}
 use Rattle.comm_rank.specs.Rank.{HasSent, Rank, fresh_rank, held_letters, sent_to}
 use Rattle.comm_rank.proofs.Direct.{nothing_to_forward}
-
-pub sublist_longer : {X : Type 0} (part whole more : List X) → IsSublist part whole → IsSublist part (whole ++ more)
-sublist_longer [] whole more h = tt
-sublist_longer (x ∷ part) [] more h = absurd h
-sublist_longer (x ∷ part) (y ∷ whole) more (inl h) = inl (h.0, sublist_longer part whole more h.1)
-sublist_longer (x ∷ part) (y ∷ whole) more (inr h) = inr (sublist_longer (x ∷ part) whole more h)
 
 not_of_pair : (from to here : ℕ) (l : Letter) → l.from ≡ here → from ≢ here → is_of_pair from to l ≡ false
 not_of_pair from to here l mine other = false_from_ne_true (is_of_pair from to l) (λ yes.
@@ -45,7 +41,7 @@ module _ {C : Type 0} (apply : Applies C) (start : C → C) (me : Rank C) (log :
         answered = λ to.
             let longer : sent_to me log to ++ of_pair me.here to (l ∷ []) ≡ sent_to (record me { sent_count = count; held = held }) log to =
             append_assoc (pair_put me.here to log) (of_pair me.here to (held_letters me)) (of_pair me.here to (l ∷ [])) ∙ ap (λ xs. pair_put me.here to log ++ xs) (sym (gains.pairs me.here to)) in
-            subst (IsSublist _) longer (sublist_longer _ (sent_to me log to) (of_pair me.here to (l ∷ [])) (agrees.answered to));
+            subst (IsSublist _) longer (sublist_longer (of_pair me.here to (l ∷ [])) (agrees.answered to));
         modest = agrees.modest;
       }
 
@@ -98,6 +94,6 @@ agrees_fresh apply start layout scheme here most contents direct fresh =
       sent_count = omega (arith, ap (λ xs. length (of_sender here xs)) none);
       run_count = refl;
       contents = sym fresh;
-      answered = λ to. tt;
+      answered = λ to. sublist_nil _;
       modest = modest;
     }

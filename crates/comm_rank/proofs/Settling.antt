@@ -1,35 +1,23 @@
 -- Where all that a rank had sent was taken, it ran.
 use Rattle.std.proofs.Common.{◌≡◌, ℕ, ◌<◌, ◌≤◌, Some, List, [], ◌∷◌, ◌++◌, length, get_or, slice_get, refl, sym, ap, ◌∙◌, subst, arith, length-append}
 use Rattle.std.proofs.lemmas.Option.{slice_get_within}
+use Rattle.list_facts.proofs.Prefix.{prefix_shorter}
 use Rattle.world_core.specs.declared.entry.Entry.{Entry}
 use Rattle.world_core.specs.Log.{letters_put, letters_taken}
 use Rattle.world_core.specs.Modest.{IsWorld}
 use Rattle.world_core.specs.Pairs.{for_rank, of_pair, pair_put, pair_taken}
 use Rattle.world_core.specs.Plain.{Plain}
-use Rattle.world_core.specs.Sound.{IsPrefix, IsSound}
+use Rattle.list_facts.specs.Prefix.{IsPrefix}
+use Rattle.world_core.specs.Sound.{IsSound}
 use Rattle.world_core.specs.World.{Logs, log_of}
-use Rattle.world_core.proofs.Counted.{pair_of_sender}
+use Rattle.world_core.proofs.Pairs.OfPair.{pair_of_sender}
 use Rattle.comm_rank.specs.Fold.{Applies}
 use Rattle.comm_rank.specs.Rank.{Rank, held_letters, handed, ran_from, sent_to}
 use Rattle.comm_rank.specs.Settled.{AllTaken, AreRanks, HasAdvanced, HasRun, sent_length}
-use Rattle.comm_rank.proofs.Advancing.{item_there}
+use Rattle.list_facts.proofs.Places.{item_there}
 use Rattle.comm_rank.proofs.Arriving.{ran_all}
 use Rattle.comm_rank.proofs.Beginnings.{pair_of_rank, ran_begins}
 use Rattle.comm_rank.proofs.Moving.{sent_at}
-
--- of two beginnings of a list, the shorter begins the longer
-shorter : {X : Type 0} (xs ys zs : List X) → IsPrefix xs zs → IsPrefix ys zs → length xs ≤ length ys → IsPrefix xs ys
-shorter [] ys zs p q le = (ys, refl)
-shorter (x ∷ xs) [] zs p q le = absurd (omega (arith, le))
-shorter (x ∷ xs) (y ∷ ys) [] p q le = absurd (let e = p.1 in cc)
-shorter {X} (x ∷ xs) (y ∷ ys) (z ∷ zs) p q le =
-    let one = heads x z (xs ++ p.0) zs p.1 in
-    let two = heads y z (ys ++ q.0) zs q.1 in
-    let rest = shorter xs ys zs (p.0, one.1) (q.0, two.1) (omega (arith, le)) in
-    (rest.0, ap (λ h. h ∷ (xs ++ rest.0)) (one.0 ∙ sym two.0) ∙ ap (λ t. y ∷ t) rest.1)
-  where
-    heads : (a b : X) (us vs : List X) → a ∷ us ≡ b ∷ vs → (a ≡ b) × (us ≡ vs)
-    heads a b us vs e = (cc, cc)
 
 pub ran_is_taken : {C : Type 0} (me : Rank C) (log : List Entry) (from to : ℕ) → me.here ≡ to → me.waiting ≡ [] → ran_from me log from ≡ pair_taken from to log
 ran_is_taken me log from to here none =
@@ -52,9 +40,9 @@ module _ {C : Type 0} (apply : Applies C) (start : C → C) (before after : List
       let within : to < new.world.layout.ranks = (let lt = slice_get_within after to a f in omega (arith, lt, now.all)) in
       let P : ℕ → ℕ → Type 0 = λ s d. IsPrefix (ran_from a (log_of new.world d) s) (sent_to later (log_of new.world s) d) in
       let ran : P caller to = subst (λ s. P s to) sender.here (subst (P later.here) mine.here (ran_begins_always new.world later a w.sound)) in
-      let sent : IsPrefix (sent_to b (log_of old.world caller) to) (sent_to later (log_of new.world caller) to) = (of_pair b.here to (handed apply b adv.0), sym (adv.1.sent to)) in
+      let sent : IsPrefix (sent_to b (log_of old.world caller) to) (sent_to later (log_of new.world caller) to) = record { rest = of_pair b.here to (handed apply b adv.0); joined = sym (adv.1.sent to) } in
       let long : length (ran_from a (log_of new.world to) caller) ≡ length (pair_taken caller to (log_of new.world to)) = ap length (ran_is_taken a (log_of new.world to) caller to mine.here mine.agrees.nothing_waits) in
-      shorter _ _ _ sent ran (omega (arith, taken to within, sent_at before old caller to b e was.here, long))
+      prefix_shorter sent ran (omega (arith, taken to within, sent_at before old caller to b e was.here, long))
 
 -- a rank has sent no more to one than in all
 pub few_to_one : {C : Type 0} (apply : Applies C) (start : C → C) (comms : List (Rank C)) (links : Plain) (rank : ℕ) (me : Rank C) → slice_get comms rank ≡ Some me → AreRanks apply start comms links →

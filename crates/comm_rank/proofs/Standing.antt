@@ -12,8 +12,8 @@ use Rattle.comm_rank.specs.Agrees.{Agrees}
 use Rattle.comm_rank.specs.Fold.{Applies}
 use Rattle.comm_rank.specs.Rank.{Rank, IsSameRank, fresh_rank}
 use Rattle.comm_rank.specs.Settled.{AreRanks, IsRankOf}
-use Rattle.comm_rank.proofs.Advancing.{same_item}
-use Rattle.comm_rank.proofs.Moving.{item_kept, item_set}
+use Rattle.list_facts.proofs.Places.{same_item}
+use Rattle.list_facts.proofs.Places.{item_kept, item_set}
 
 module _ {C : Type 0} (apply : Applies C) (start : C → C) where
   pub ranks_sent : (comms : List (Rank C)) (links : Plain) (rank : ℕ) (me now : Rank C) → slice_get comms rank ≡ Some me →

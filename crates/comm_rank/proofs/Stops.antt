@@ -7,7 +7,7 @@ use Rattle.std.proofs.lemmas.Bool.{cases_lt}
 use Rattle.ygm_route.specs.Layout.{Shape}
 use Rattle.world_core.specs.Plain.{Plain, is_stopped, told_by}
 use Rattle.world_core.specs.Post.{SameStops, ServesAll, SomeRaised}
-use Rattle.world_core.proofs.Parts.{raised_at}
+use Rattle.list_facts.proofs.Tests.{raised_at}
 use Rattle.comm_rank.specs.Fault.{IfStopped}
 use Rattle.comm_rank.specs.Rank.{Rank}
 use Rattle.comm_rank.specs.Settled.{HaltedAt}

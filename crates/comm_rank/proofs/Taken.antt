@@ -5,7 +5,7 @@ use Rattle.msg_codec.specs.declared.letter.Letter.{Letter}
 use Rattle.ygm_route.specs.declared.scheme.Scheme.TheVariants.{Direct}
 use Rattle.world_core.specs.Post.{CountsNeverFall, TakeKeeps, Told, TookBatch, TookNone}
 use Rattle.world_core.specs.Rules.{IsHonest}
-use Rattle.world_core.proofs.Posts.NeverFall.{after_took, after_took_none}
+use Rattle.world_core.proofs.Posts.CountsNeverFall.{after_took, after_took_none}
 use Rattle.comm_rank.specs.declared.fault.CommFault.{CommFault}
 use Rattle.comm_rank.specs.Agrees.{Agrees, Belongs}
 use Rattle.comm_rank.specs.Fold.{Applies}

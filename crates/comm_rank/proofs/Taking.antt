@@ -16,17 +16,19 @@ use Rattle.world_core.specs.Modest.{IsModest}
 use Rattle.world_core.specs.Pairs.{arrived, for_rank, is_of_pair, of_pair, of_sender, own, pair_put}
 use Rattle.world_core.specs.Post.{MissesRise, SamePost, Told, TookBatch, link_in, local_at}
 use Rattle.world_core.specs.Rules.{IsHonest}
-use Rattle.world_core.proofs.Alone.{honest_more}
-use Rattle.world_core.proofs.Batch.{pair_put-took}
-use Rattle.world_core.proofs.Entries.{batches_put-took, batches_taken-took}
-use Rattle.comm_rank.specs.Agrees.{Agrees, Belongs, IsSublist}
+use Rattle.world_core.proofs.Deeds.Honest.{honest_more}
+use Rattle.world_core.proofs.Pairs.Appended.{pair_put-took}
+use Rattle.world_core.proofs.Log.Appended.{batches_put-took, batches_taken-took}
+use Rattle.list_facts.specs.Sublist.{IsSublist}
+use Rattle.comm_rank.specs.Agrees.{Agrees, Belongs}
 use Rattle.comm_rank.specs.Fold.{Applies, fold_from, handed_from}
 use Rattle.comm_rank.specs.Held.{Gains}
 use Rattle.comm_rank.specs.Rank.{Rank, IsSameRank, handed, held_letters, local_of, ran_at, sent_to}
 use Rattle.comm_rank.specs.declared.fault.CommFault.{CommFault}
 use Rattle.comm_rank.specs.Running.{CutFrom, HasRunAll, IsFor, NotLookedAt, StuckIn, TookFrom, WasCutFrom}
 use Rattle.comm_rank.specs.Turns.{Advanced, LookedAt}
-use Rattle.comm_rank.proofs.Arriving.{arrived-took, batch_for, for_all, forward_same, none_of_others, own-took, own_all, ran_all, ran_is, sublist_more}
+use Rattle.list_facts.proofs.Sublist.{sublist_append}
+use Rattle.comm_rank.proofs.Arriving.{arrived-took, batch_for, for_all, forward_same, none_of_others, own-took, own_all, ran_all, ran_is}
 use Rattle.comm_rank.proofs.Folds.{fold-append, handed-append, if_full, rest_for}
 
 -- ---- the batch waits
@@ -206,7 +208,7 @@ module _ {C : Type 0} (apply : Applies C) (old new : Rank C) (log after : List E
               ∙ filter-append (is_of_pair here to) (handed_from apply here n (start old.contents) (ran_at old log)) given in
               let P : List Letter → Type 0 = λ xs. IsSublist xs (sent_to new after to) in
               let Q : List Letter → Type 0 = λ xs. IsSublist (of_pair here to (handed_from apply here n (start old.contents) (ran_at old log)) ++ of_pair here to given) xs in
-              subst P (sym gave) (subst Q (sym (adv.sent to)) (sublist_more _ (sent_to old log to) (of_pair here to given) (agrees.answered to)));
+              subst P (sym gave) (subst Q (sym (adv.sent to)) (sublist_append (of_pair here to given) (agrees.answered to)));
           modest = subst IsModest (local_is old new after same) modest;
         }
 

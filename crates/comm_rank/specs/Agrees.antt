@@ -1,5 +1,6 @@
 -- When a rank and its log belong together.
-use Rattle.std.specs.Prelude.{◌≡◌, ◌≢◌, ◌⊎◌, ℕ, ◌+◌, IsTrue, List, [], ◌∷◌, length, ⊤}
+use Rattle.std.specs.Prelude.{◌≡◌, ◌≢◌, ℕ, ◌+◌, IsTrue, List, [], length}
+use Rattle.list_facts.specs.Sublist.{IsSublist}
 use Rattle.world_core.specs.declared.entry.Entry.{Entry}
 use Rattle.world_core.specs.Local.{to_forward}
 use Rattle.world_core.specs.Modest.{IsModest}
@@ -7,12 +8,6 @@ use Rattle.world_core.specs.Pairs.{of_pair, of_sender, own}
 use Rattle.world_core.specs.Post.{Told}
 use Rattle.comm_rank.specs.Fold.{Applies, fold_from, handed_from}
 use Rattle.comm_rank.specs.Rank.{Rank, local_of, held_letters, sent_to, ran_at}
-
--- a list is another with some of its elements left out
-abbrev pub IsSublist : {X : Type 0} → List X → List X → Type 0
-IsSublist [] whole = ⊤
-IsSublist (x ∷ part) [] = ⊥
-IsSublist (x ∷ part) (y ∷ whole) = ((x ≡ y) × IsSublist part whole) ⊎ IsSublist (x ∷ part) whole
 
 -- A rank agrees with a log: all that came has run, what it holds of others is what it has to forward, its counts
 -- are those of the letters that it sent and ran, its contents are the fold of what ran, all that its handler gave

@@ -1,11 +1,11 @@
 -- All ranks of a world over plain links, and what the weak barrier does.
 use Rattle.std.specs.Prelude.{◌≡◌, ◌≢◌, ◌⊎◌, ℕ, ◌+◌, ◌<◌, ◌≤◌, Bool, false, true, Option, None, List, [], ◌++◌, Some, length, slice_get, slice_set}
+use Rattle.list_facts.specs.Prefix.{IsPrefix}
 use Rattle.msg_codec.specs.declared.letter.Letter.{Letter}
 use Rattle.world_core.specs.declared.entry.Entry.{Entry}
 use Rattle.world_core.specs.Log.{letters_of}
 use Rattle.world_core.specs.Pairs.{of_pair, pair_put, pair_taken}
 use Rattle.world_core.specs.Plain.{Plain, told_by}
-use Rattle.world_core.specs.Sound.{IsPrefix}
 use Rattle.world_core.specs.World.{link, log_of}
 use Rattle.comm_rank.specs.Agrees.{Agrees}
 use Rattle.comm_rank.specs.Fault.{IfCountFull, IfStopped, IsFullAt, UnlessStopped}

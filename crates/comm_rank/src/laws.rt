@@ -1,6 +1,7 @@
 //! What the contracts add up to. Each law is the contract of a function that does nothing.
 ghost use Rattle.std.specs.Prelude.{◌<◌};
-ghost use Rattle.world_core.specs.Sound.{IsPrefix, IsSound};
+ghost use Rattle.list_facts.specs.Prefix.{IsPrefix};
+ghost use Rattle.world_core.specs.Sound.{IsSound};
 ghost use Rattle.world_core.specs.World.{Logs, log_of};
 ghost use Rattle.comm_rank.specs.Rank.{Rank, ran_from, sent_to};
 

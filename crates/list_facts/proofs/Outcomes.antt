@@ -17,6 +17,11 @@ pub either_of : {T E : Type 0} (r : Result T E) (P A B : Type 0) {A' B' : Type 0
 either_of (Ok x) P A B f g a a' b b' = f a a'
 either_of (Err e) P A B f g a a' b b' = g b b'
 
+-- two facts of a value show a third
+pub ok_both : {T E : Type 0} (r : Result T E) {A B P : Type 0} → (A → B → P) → OnOk r A → OnOk r B → OnOk r P
+ok_both (Ok x) f a b = f a b
+ok_both (Err e) f a b = tt
+
 -- of the value in an option that has one
 pub unwrapped : {X : Type 0} (P : X → Type 0) (o : Option X) (d : X) → is_some o ≡ true → IfSome o P → P (unwrap_or o d)
 unwrapped P None d is h = absurd (false≢true is)

@@ -1,7 +1,7 @@
 use Rattle.std.proofs.Common.{◌≡◌, ◌||◌, ◌+◌, ◌∙◌, ℕ, Bool, refl, subst, arith, rules}
 use Rattle.std.proofs.lemmas.Result.{IfErr-weaker, err_from_is_err_and}
 use Rattle.world_core.specs.World.{log_of}
-use Rattle.world_core.proofs.Lists.{prefix_refl}
+use Rattle.list_facts.proofs.Prefix.{prefix_refl}
 use Rattle.comm_rank.specs.Settled.{RoundMoves}
 use Rattle.comm_rank.proofs.Advancing.{failed_later, has_advanced_more, has_advanced_none, logs_grow_more, same_links_more, same_links_none, same_ranks_more, same_ranks_none}
 use Rattle.comm_rank.proofs.Rounds.{or_else, or_then, round_begins, turn_more}

@@ -1,7 +1,7 @@
 use Rattle.std.proofs.Common.{◌≡◌, [], ◌∷◌, length, refl, sym, ap, ◌∙◌, arith, length-append, length-set}
 use Rattle.world_core.specs.declared.entry.Entry.TheVariants.{Put}
 use Rattle.world_core.specs.Post.{PutFoundFull, PutHadNoMemory, batch_back}
-use Rattle.world_core.proofs.Posts.NeverFall.{after_put_done, after_put_full, after_put_no_memory}
+use Rattle.world_core.proofs.Posts.CountsNeverFall.{after_put_done, after_put_full, after_put_no_memory}
 use Rattle.comm_rank.specs.Held.{held_for}
 use Rattle.comm_rank.specs.Moves.{Moved}
 use Rattle.comm_rank.proofs.Each.{full_still}

@@ -1,7 +1,8 @@
 use Rattle.std.proofs.Common.{IfErr, [], ◌++◌, refl, ◌∙◌, arith, length-append, rules}
+use Rattle.std.proofs.lemmas.List.{nil_from_length}
 use Rattle.std.proofs.lemmas.Result.{IfErr-weaker}
 use Rattle.comm_rank.specs.Moves.{PutsFailed}
-use Rattle.comm_rank.proofs.Puts.{count_of_none, count_of_one, found_full_at_last, keeps_none, moved_none, moved_then, none_remains, others_then, puts_one}
+use Rattle.comm_rank.proofs.Puts.{count_of_none, count_of_one, found_full_at_last, keeps_none, moved_none, moved_then, others_then, puts_one}
 use Rattle.comm_rank.proofs.put_out.put_to.Goals as goal
 
 pub loop-k-init : goal.loop-k-init
@@ -56,5 +57,5 @@ returns-clause-put g c =
       placed = i.placed;
       moved = i.moved;
       count = omega (arith, i.count, c.loop-k-test.false, c.loop-k.auto.k-end);
-      until = (none_remains _ (omega (arith, i.left, c.loop-k-test.false, c.batches_for-most.ensures.count)), i.fulls);
+      until = (nil_from_length _ (omega (arith, i.left, c.loop-k-test.false, c.batches_for-most.ensures.count)), i.fulls);
     }

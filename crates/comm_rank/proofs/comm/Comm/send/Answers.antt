@@ -2,7 +2,7 @@ use Rattle.std.proofs.Common.{◌≡◌, ℕ, List, refl, sym, ap, subst, lt-ltb
 use Rattle.msg_codec.specs.declared.letter.Letter.{Letter}
 use Rattle.comm_rank.specs.Agrees.{Agrees}
 use Rattle.comm_rank.specs.Rank.{HasSent, Rank}
-use Rattle.comm_rank.proofs.Queues.{either_of, ok_both}
+use Rattle.list_facts.proofs.Outcomes.{either_of, ok_both}
 use Rattle.comm_rank.proofs.Sending.{agrees_sent, agrees_unchanged, has_sent}
 use Rattle.comm_rank.proofs.comm.Comm.send.Goals as goal
 

@@ -2,11 +2,14 @@ use Rattle.std.proofs.Common.{◌≡◌, [], ◌∷◌, ◌++◌, length, map, a
 use Rattle.std.specs.List.{AllByRecursion}
 use Rattle.msg_codec.specs.Letter.{letter_of}
 use Rattle.world_core.specs.Log.{letters_of}
-use Rattle.world_core.proofs.Lists.{all_append}
+use Rattle.list_facts.proofs.Elements.{all_append}
 use Rattle.comm_rank.specs.Held.{Gains, held_for}
 use Rattle.comm_rank.specs.Store.{AreHeld, IsHeldFor, Stored, holding}
 use Rattle.comm_rank.proofs.Holding.{gains, one_changed}
-use Rattle.comm_rank.proofs.Queues.{either, held_now, held_by, on_err, on_ok, read_at, same_at, write_at}
+use Rattle.list_facts.proofs.Fields.{field_read, field_same, field_written}
+use Rattle.list_facts.proofs.Outcomes.{either}
+use Rattle.std.proofs.lemmas.Result.{on_err_weaker, on_ok_weaker}
+use Rattle.comm_rank.proofs.Queues.{held_now, held_by}
 use Rattle.comm_rank.proofs.held.Held.add.Goals as goal
 
 pub returns-clause-ok : goal.returns-clause-ok
@@ -14,16 +17,16 @@ returns-clause-ok c =
     let lists = c.args.self.now.lists in
     let l = letter_of c.args.letter in
     let same : map (λ queue. queue.letters) c.self.inside.queues.items ≡ lists = ap (λ (s : Stored). s.lists) c.self.view_is in
-    let read : c.index_mut.result.now.letters ≡ held_for lists c.args.letter.to = read_at (λ queue. queue.letters) c.self.inside.queues.items lists c.args.letter.to c.index_mut.result.now same c.requires.within c.index_mut.ensures.value in
+    let read : c.index_mut.result.now.letters ≡ held_for lists c.args.letter.to = field_read (λ queue. queue.letters) c.self.inside.queues.items lists c.args.letter.to c.index_mut.result.now [] same c.requires.within c.index_mut.ensures.value in
     let batch : c.push.new.self ≡ l ∷ [] = c.in_ok-push.ensures.last ∙ ap (λ xs. xs ++ l ∷ []) c.empty-batch.ensures in
-    on_ok c.push-2.result _ _ (λ h. write_at (λ queue. queue.letters) c.self.inside.queues.items lists c.args.letter.to c.push-2.new.self (held_for lists c.args.letter.to ++ l ∷ []) same
+    on_ok_weaker c.push-2.result (λ h. field_written (λ queue. queue.letters) c.self.inside.queues.items lists c.args.letter.to c.push-2.new.self (held_for lists c.args.letter.to ++ l ∷ []) same
     (h ∙ ap (λ xs. xs ++ c.push.new.self) read ∙ ap (λ xs. held_for lists c.args.letter.to ++ xs) batch)) c.push-2.ensures.ok
 
 pub returns-clause-err : goal.returns-clause-err
 returns-clause-err c =
     let lists = c.args.self.now.lists in
     let same : map (λ queue. queue.letters) c.self.inside.queues.items ≡ lists = ap (λ (s : Stored). s.lists) c.self.view_is in
-    on_err c.push-2.result _ _ (λ h. same_at (λ queue. queue.letters) c.self.inside.queues.items lists c.args.letter.to c.index_mut.result.now c.push-2.new.self same c.requires.within c.index_mut.ensures.value h) c.push-2.ensures.err
+    on_err_weaker c.push-2.result (λ h. field_same (λ queue. queue.letters) c.self.inside.queues.items lists c.args.letter.to c.index_mut.result.now c.push-2.new.self same c.requires.within c.index_mut.ensures.value h) c.push-2.ensures.err
 
 pub returns-clause-gains : goal.returns-clause-gains
 returns-clause-gains c =
@@ -31,7 +34,7 @@ returns-clause-gains c =
     let l = letter_of c.args.letter in
     let same : map (λ queue. queue.letters) c.self.inside.queues.items ≡ lists = ap (λ (s : Stored). s.lists) c.self.view_is in
     let held : AreHeld (length lists) lists = held_now c.self.inside.ranks _ lists same c.self.invariant in
-    on_ok c.push-2.result _ _ (λ h. subst (λ now. Gains (letters_of lists) (letters_of now) (l ∷ [])) (sym h) (gains (length lists) lists l held c.requires.within c.requires.data)) (returns-clause-ok c)
+    on_ok_weaker c.push-2.result (λ h. subst (λ now. Gains (letters_of lists) (letters_of now) (l ∷ [])) (sym h) (gains (length lists) lists l held c.requires.within c.requires.data)) (returns-clause-ok c)
 
 pub invariant_of-self : goal.invariant_of-self
 invariant_of-self c =

@@ -1,19 +1,20 @@
-use Rattle.std.proofs.Common.{◌≡◌, List, ◌++◌, length, map, set, ap, ◌∙◌, sym, subst}
+use Rattle.std.proofs.Common.{◌≡◌, List, ◌++◌, length, map, set, ap, ◌∙◌, sym, subst, []}
 use Rattle.std.specs.List.{AllByRecursion}
 use Rattle.msg_codec.specs.declared.letter.Letter.{Letter}
-use Rattle.world_core.proofs.Lists.{all_append}
+use Rattle.list_facts.proofs.Elements.{all_append}
 use Rattle.comm_rank.specs.Held.{held_for}
 use Rattle.comm_rank.specs.Store.{Stored, AreHeld, IsHeldFor}
 use Rattle.comm_rank.proofs.Holding.{apart, one_changed}
-use Rattle.comm_rank.proofs.Queues.{held_now, held_by, read_at, write_at}
+use Rattle.list_facts.proofs.Fields.{field_read, field_written}
+use Rattle.comm_rank.proofs.Queues.{held_now, held_by}
 use Rattle.comm_rank.proofs.held.Held.step_back.Goals as goal
 
 pub returns-clause-back : goal.returns-clause-back
 returns-clause-back c =
     let lists = c.args.self.now.lists in
     let same : map (λ queue. queue.letters) c.self.inside.queues.items ≡ lists = ap (λ (s : Stored). s.lists) c.self.view_is in
-    let read = read_at (λ queue. queue.letters) c.self.inside.queues.items lists c.args.to c.index_mut.result.now same c.requires.within c.index_mut.ensures.value in
-    write_at (λ queue. queue.letters) c.self.inside.queues.items lists c.args.to c.give_back.new.self (c.args.batch ++ held_for lists c.args.to) same (c.give_back.ensures ∙ ap (λ xs. c.args.batch ++ xs) read)
+    let read = field_read (λ queue. queue.letters) c.self.inside.queues.items lists c.args.to c.index_mut.result.now [] same c.requires.within c.index_mut.ensures.value in
+    field_written (λ queue. queue.letters) c.self.inside.queues.items lists c.args.to c.give_back.new.self (c.args.batch ++ held_for lists c.args.to) same (c.give_back.ensures ∙ ap (λ xs. c.args.batch ++ xs) read)
 
 pub invariant_of-self : goal.invariant_of-self
 invariant_of-self c =

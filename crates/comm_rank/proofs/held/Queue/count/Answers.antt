@@ -1,6 +1,6 @@
 use Rattle.std.proofs.Common.{◌≡◌, ap, arith, length}
 use Rattle.comm_rank.specs.Store.{Queued}
-use Rattle.comm_rank.proofs.Singles.{joined, length-joined}
+use Rattle.list_facts.proofs.Singles.{joined, length-joined}
 use Rattle.comm_rank.proofs.held.Queue.count.Goals as goal
 
 pub returns : goal.returns

@@ -1,6 +1,6 @@
 use Rattle.std.proofs.Common.{◌≡◌, ap, ◌∙◌, drop, arith}
 use Rattle.comm_rank.specs.Store.{Queued}
-use Rattle.comm_rank.proofs.Singles.{joined, drop-joined, popped}
+use Rattle.list_facts.proofs.Singles.{joined, drop-joined, popped}
 use Rattle.comm_rank.proofs.held.Queue.pop.Goals as goal
 
 pub returns-clause-batch : goal.returns-clause-batch
