@@ -3,9 +3,9 @@ use Rattle.std.proofs.lemmas.Result.{IfErr-weaker, err_from_is_err_and}
 use Rattle.world_core.specs.World.{log_of}
 use Rattle.list_facts.proofs.Prefix.{prefix_refl}
 use Rattle.comm_rank.specs.Settled.{RoundMoves}
-use Rattle.comm_rank.proofs.Advancing.{failed_later, has_advanced_more, has_advanced_none, logs_grow_more, same_links_more, same_links_none, same_ranks_more, same_ranks_none}
-use Rattle.comm_rank.proofs.Rounds.{or_else, or_then, round_begins, turn_more}
-use Rattle.comm_rank.proofs.Stops.{halted_first, if_stopped, met_none, met_then, raised_earlier, raised_later, same_stops_more, sees_by, sees_earlier}
+use Rattle.comm_rank.proofs.Settled.Advanced.{failed_later, has_advanced_more, has_advanced_none, logs_grow_more, same_links_more, same_links_none, same_ranks_more, same_ranks_none}
+use Rattle.comm_rank.proofs.Settled.Rounds.{or_else, or_then, round_begins, turn_more}
+use Rattle.comm_rank.proofs.Settled.Stops.{halted_first, if_stopped, met_none, met_then, raised_earlier, raised_later, same_stops_more, sees_by, sees_earlier}
 use Rattle.comm_rank.proofs.barrier.round.Goals as goal
 use Rattle.comm_rank.proofs.barrier.round.Goals.{then-moved, else-moved}
 

@@ -3,12 +3,12 @@ use Rattle.std.proofs.lemmas.Result.{IfErr-weaker, err_from_is_err_and}
 use Rattle.world_core.specs.World.{log_of}
 use Rattle.list_facts.proofs.Prefix.{prefix_refl}
 use Rattle.comm_rank.specs.Settled.{IsNear, RoundMoves}
-use Rattle.comm_rank.proofs.Advancing.{failed_later, has_advanced_more, has_advanced_none, logs_grow_more, same_links_more, same_links_none, same_ranks_more, same_ranks_none}
-use Rattle.comm_rank.proofs.Rounds.{near_at_first, round_more, rounds_enough, still_round}
-use Rattle.comm_rank.proofs.Settling.{few_to_one, has_run}
-use Rattle.comm_rank.proofs.Keeping.{none_lost_by_failed, none_lost_by_ranks}
-use Rattle.comm_rank.proofs.PlainTurns.{straight, there}
-use Rattle.comm_rank.proofs.Stops.{halted_first, if_stopped, met_none, met_then, raised_earlier, raised_later, same_stops_more, sees_by, sees_earlier, stopped_if_raised}
+use Rattle.comm_rank.proofs.Settled.Advanced.{failed_later, has_advanced_more, has_advanced_none, logs_grow_more, same_links_more, same_links_none, same_ranks_more, same_ranks_none}
+use Rattle.comm_rank.proofs.Settled.Rounds.{near_at_first, round_more, rounds_enough, still_round}
+use Rattle.comm_rank.proofs.Settled.HasRun.{few_to_one, has_run}
+use Rattle.comm_rank.proofs.Settled.NoneLost.{none_lost_by_failed, none_lost_by_ranks}
+use Rattle.comm_rank.proofs.Settled.PlainTurn.{straight, there}
+use Rattle.comm_rank.proofs.Settled.Stops.{halted_first, if_stopped, met_none, met_then, raised_earlier, raised_later, same_stops_more, sees_by, sees_earlier, stopped_if_raised}
 use Rattle.comm_rank.proofs.barrier.settle.Goals as goal
 
 pub loop-init : goal.loop-init

@@ -1,15 +1,15 @@
 use Rattle.std.proofs.Common.{◌≡◌, ◌≤◌, ◌∙◌, ℕ, IfErr, get_or, ap, sym, rules}
 use Rattle.std.proofs.lemmas.Result.{IfErr-weaker, err_from_is_err_and}
-use Rattle.comm_rank.proofs.Moving.{advanced_after, ranks_after, same_ranks_after, turn_moves}
+use Rattle.comm_rank.proofs.Settled.TurnMoves.{advanced_after, ranks_after, same_ranks_after, turn_moves}
 use Rattle.ygm_route.specs.declared.scheme.Scheme.TheVariants.{Direct}
 use Rattle.world_core.specs.Plain.{told_by}
 use Rattle.comm_rank.specs.Fault.{IfStopped, UnlessStopped}
 use Rattle.comm_rank.specs.Rank.{Rank}
 use Rattle.comm_rank.specs.Store.{AreApart}
 use Rattle.comm_rank.specs.Turns.{HasFailed, HasHalted}
-use Rattle.comm_rank.proofs.PlainTurns.{belongs_here, failed_at, halted_at, logs_grow, mine, of_now, there, turn_at}
-use Rattle.comm_rank.proofs.Same.{worked_same}
-use Rattle.comm_rank.proofs.Stops.{met_then, raised_by}
+use Rattle.comm_rank.proofs.Settled.PlainTurn.{belongs_here, failed_at, halted_at, logs_grow, mine, of_now, there, turn_at}
+use Rattle.comm_rank.proofs.Rank.Same.{worked_same}
+use Rattle.comm_rank.proofs.Settled.Stops.{met_then, raised_by}
 use Rattle.comm_rank.proofs.barrier.turn_of.Goals as goal
 
 pub turn-requires-clause-going : goal.turn-requires-clause-going

@@ -1,5 +1,5 @@
 use Rattle.world_core.specs.World.{log_of}
-use Rattle.comm_rank.proofs.Beginnings.{ran_begins}
+use Rattle.comm_rank.proofs.Rank.RanFrom.{ran_begins}
 use Rattle.comm_rank.proofs.laws.what_ran_is_the_beginning_of_what_was_sent.Goals as goal
 
 pub returns : goal.returns

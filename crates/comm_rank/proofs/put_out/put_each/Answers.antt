@@ -2,8 +2,8 @@ use Rattle.std.proofs.Common.{IfErr, rules, ◌+◌, Bool, ◌++◌, ◌∙◌, 
 use Rattle.std.proofs.lemmas.Result.{IfErr-weaker}
 use Rattle.comm_rank.specs.Moves.{PutUntil, PutsFailed}
 use Rattle.comm_rank.specs.Turns.{FirstFull}
-use Rattle.comm_rank.proofs.Each.{Below, first_next, first_next_full, later_next, none_or_full_next}
-use Rattle.comm_rank.proofs.Puts.{moved_then}
+use Rattle.comm_rank.proofs.Moves.EachRank.{Below, first_next, first_next_full, later_next, none_or_full_next}
+use Rattle.comm_rank.proofs.Moves.OnePut.{moved_then}
 use Rattle.comm_rank.proofs.put_out.put_each.Goals as goal
 use Rattle.comm_rank.proofs.put_out.put_each.Goals.{then-placed, else-placed}
 

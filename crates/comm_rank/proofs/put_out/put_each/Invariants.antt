@@ -2,7 +2,7 @@ use Rattle.std.proofs.Common.{◌≡◌, ◌≤◌, ◌<◌, ◌-◌, ◌^◌, �
 use Rattle.world_core.specs.declared.entry.Entry.{Entry}
 use Rattle.comm_rank.specs.Moves.{Moved}
 use Rattle.comm_rank.specs.Turns.{FirstFull, NoneOrFull}
-use Rattle.comm_rank.proofs.Each.{Below}
+use Rattle.comm_rank.proofs.Moves.EachRank.{Below}
 use Rattle.comm_rank.proofs.put_out.put_each.Given as goal
 
 -- what is held for the first ranks moved, as far as their links weren't full

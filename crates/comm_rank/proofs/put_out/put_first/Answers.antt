@@ -4,8 +4,8 @@ use Rattle.world_core.specs.Post.{PutFoundFull, PutHadNoMemory, batch_back}
 use Rattle.world_core.proofs.Posts.CountsNeverFall.{after_put_done, after_put_full, after_put_no_memory}
 use Rattle.comm_rank.specs.Held.{held_for}
 use Rattle.comm_rank.specs.Moves.{Moved}
-use Rattle.comm_rank.proofs.Each.{full_still}
-use Rattle.comm_rank.proofs.Puts.{found_full, given_back, had_no_memory, may_put_one, move_keeps, moved_none, moved_one, some_held}
+use Rattle.comm_rank.proofs.Moves.EachRank.{full_still}
+use Rattle.comm_rank.proofs.Moves.OnePut.{found_full, given_back, had_no_memory, may_put_one, move_keeps, moved_none, moved_one, some_held}
 use Rattle.comm_rank.proofs.put_out.put_first.Goals as goal
 
 pub put-requires-clause-honest : goal.put-requires-clause-honest

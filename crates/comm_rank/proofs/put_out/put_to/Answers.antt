@@ -2,7 +2,7 @@ use Rattle.std.proofs.Common.{IfErr, [], ◌++◌, refl, ◌∙◌, arith, lengt
 use Rattle.std.proofs.lemmas.List.{nil_from_length}
 use Rattle.std.proofs.lemmas.Result.{IfErr-weaker}
 use Rattle.comm_rank.specs.Moves.{PutsFailed}
-use Rattle.comm_rank.proofs.Puts.{count_of_none, count_of_one, found_full_at_last, keeps_none, moved_none, moved_then, others_then, puts_one}
+use Rattle.comm_rank.proofs.Moves.OnePut.{count_of_none, count_of_one, found_full_at_last, keeps_none, moved_none, moved_then, others_then, puts_one}
 use Rattle.comm_rank.proofs.put_out.put_to.Goals as goal
 
 pub loop-k-init : goal.loop-k-init

@@ -1,7 +1,7 @@
 use Rattle.std.proofs.Common.{map, ◌∙◌}
 use Rattle.world_core.specs.Log.{letters_of}
 use Rattle.comm_rank.specs.Fold.{letter_by}
-use Rattle.comm_rank.proofs.Gaining.{count_then, gains_next}
+use Rattle.comm_rank.proofs.Gains.{count_then, gains_next}
 use Rattle.comm_rank.proofs.turn.send_out.Goals as goal
 
 pub loop-k-preserved : goal.loop-k-preserved

@@ -1,7 +1,7 @@
 use Rattle.std.proofs.Common.{◌≡◌, false, [], replicate, sym, ap, ◌∙◌, subst}
 use Rattle.comm_rank.specs.Agrees.{Agrees}
 use Rattle.comm_rank.specs.Rank.{Rank, fresh_rank}
-use Rattle.comm_rank.proofs.Sending.{agrees_fresh}
+use Rattle.comm_rank.proofs.Agrees.Fresh.{agrees_fresh}
 use Rattle.comm_rank.proofs.comm.Comm.new.Goals as goal
 
 pub returns-clause-agrees : goal.returns-clause-agrees

@@ -4,7 +4,7 @@ use Rattle.world_core.specs.Post.{Told}
 use Rattle.comm_rank.specs.Agrees.{Belongs}
 use Rattle.comm_rank.specs.Rank.{Rank}
 use Rattle.comm_rank.specs.Moves.{HasPutAll, MoveKeeps, PutAllFailed}
-use Rattle.comm_rank.proofs.PutOut.{belongs_after, has_put_all, honest_moved, may_put, moved_each, put_all_failed}
+use Rattle.comm_rank.proofs.Agrees.AfterPuts.{belongs_after, has_put_all, honest_moved, may_put, moved_each, put_all_failed}
 use Rattle.comm_rank.proofs.comm.Comm.put_all.Goals as goal
 
 pub put_each-requires-clause-may_put : goal.put_each-requires-clause-may_put

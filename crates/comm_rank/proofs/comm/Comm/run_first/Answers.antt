@@ -5,7 +5,7 @@ use Rattle.msg_codec.specs.Letter.{letter_of}
 use Rattle.comm_rank.specs.declared.fault.CommFault.TheVariants.{NoMemory}
 use Rattle.comm_rank.specs.Fault.{IfCountFull, IsFullAt, NeverStopped}
 use Rattle.comm_rank.specs.Sends.{IsData}
-use Rattle.comm_rank.proofs.Folds.{first_cut_short, first_refused, outs_are, made_are, ran_first}
+use Rattle.comm_rank.proofs.Running.RunAll.{first_cut_short, first_refused, outs_are, made_are, ran_first}
 use Rattle.comm_rank.proofs.comm.Comm.run_first.Goals as goal
 
 pub returns-in_err-run-clause-stuck : goal.returns-in_err-run-clause-stuck

@@ -1,8 +1,8 @@
 use Rattle.std.proofs.Common.{IfErr, ◌++◌, [], ◌∷◌, length-append, arith, rules}
 use Rattle.std.proofs.lemmas.Result.{IfErr-weaker}
 use Rattle.comm_rank.specs.Running.{StuckFirst}
-use Rattle.comm_rank.proofs.Folds.{ran_more, rest_for, stuck_among, waits_one_less}
-use Rattle.comm_rank.proofs.Same.{same_rank, worked_then}
+use Rattle.comm_rank.proofs.Running.RunAll.{ran_more, rest_for, stuck_among, waits_one_less}
+use Rattle.comm_rank.proofs.Rank.Same.{same_rank, worked_then}
 use Rattle.comm_rank.proofs.comm.Comm.run_waiting.Goals as goal
 
 pub run_first-requires-clause-for_here : goal.run_first-requires-clause-for_here

@@ -3,7 +3,8 @@ use Rattle.msg_codec.specs.declared.letter.Letter.{Letter}
 use Rattle.comm_rank.specs.Agrees.{Agrees}
 use Rattle.comm_rank.specs.Rank.{HasSent, Rank}
 use Rattle.list_facts.proofs.Outcomes.{either_of, ok_both}
-use Rattle.comm_rank.proofs.Sending.{agrees_sent, agrees_unchanged, has_sent}
+use Rattle.comm_rank.proofs.Agrees.AfterSend.{agrees_sent, agrees_unchanged}
+use Rattle.comm_rank.proofs.Rank.Sent.{has_sent}
 use Rattle.comm_rank.proofs.comm.Comm.send.Goals as goal
 
 pub returns-clause-sent : goal.returns-clause-sent

@@ -1,9 +1,9 @@
 use Rattle.std.proofs.Common.{ℕ, IfErr, refl, subst, arith, rules}
 use Rattle.std.proofs.lemmas.Result.{IfErr-weaker}
 use Rattle.comm_rank.specs.Running.{TookFrom, WasCutFrom}
-use Rattle.comm_rank.proofs.Joining.{cut_later, joined, looked_below, not_looked_above, took_nothing}
-use Rattle.comm_rank.proofs.Kept.{takes_none, takes_then}
-use Rattle.comm_rank.proofs.Same.{same_rank, worked_then}
+use Rattle.comm_rank.proofs.Running.TookBelow.{cut_later, joined, looked_below, not_looked_above, took_nothing}
+use Rattle.comm_rank.proofs.Running.Keeps.{takes_none, takes_then}
+use Rattle.comm_rank.proofs.Rank.Same.{same_rank, worked_then}
 use Rattle.comm_rank.proofs.comm.Comm.take_all.Goals as goal
 
 pub loop-from-init : goal.loop-from-init

@@ -2,9 +2,9 @@ use Rattle.std.proofs.Common.{IfErr, refl, ap, sym, ◌∙◌, rules}
 use Rattle.std.proofs.lemmas.Result.{IfErr-weaker}
 use Rattle.comm_rank.specs.Rank.{IsSameRank, Rank}
 use Rattle.comm_rank.specs.Running.{StuckIn}
-use Rattle.comm_rank.proofs.Same.{same_rank}
-use Rattle.comm_rank.proofs.Taken.{batch_cut, batch_few, batch_for, batch_keeps, batch_taken, none_keeps, none_taken}
-use Rattle.comm_rank.proofs.Taking.{few_waiting, ran_waiting, same_from, stuck_waiting, waiting_for}
+use Rattle.comm_rank.proofs.Rank.Same.{same_rank}
+use Rattle.comm_rank.proofs.Running.TakenFrom.{batch_cut, batch_few, batch_for, batch_keeps, batch_taken, none_keeps, none_taken}
+use Rattle.comm_rank.proofs.Agrees.AfterTake.{few_waiting, ran_waiting, same_from, stuck_waiting, waiting_for}
 use Rattle.comm_rank.proofs.comm.Comm.take_from.Goals as goal
 
 pub returns-in_default-clause-took : goal.returns-in_default-clause-took

@@ -1,8 +1,9 @@
 use Rattle.std.proofs.Common.{◌≡◌, ◌∙◌, ap, refl, subst, true}
 use Rattle.std.proofs.lemmas.Result.{IfErr-weaker}
 use Rattle.comm_rank.specs.Rank.{Rank}
-use Rattle.comm_rank.proofs.Same.{same_rank}
-use Rattle.comm_rank.proofs.Turning.{log_at, unless_stopped, was_cut_stopped}
+use Rattle.comm_rank.proofs.Rank.Same.{same_rank}
+use Rattle.comm_rank.proofs.Turns.Faults.{unless_stopped}
+use Rattle.comm_rank.proofs.Turns.Outcomes.{log_at, was_cut_stopped}
 use Rattle.comm_rank.proofs.comm.Comm.turn.Goals as goal
 
 pub returns-then-is_err-clause-failed : goal.returns-then-is_err-clause-failed

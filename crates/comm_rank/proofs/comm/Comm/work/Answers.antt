@@ -2,9 +2,9 @@ use Rattle.std.proofs.Common.{ℕ, IfErr, refl, ap, ◌∙◌, subst, arith, rul
 use Rattle.std.proofs.lemmas.Result.{IfErr-weaker}
 use Rattle.ygm_route.specs.Layout.{Shape}
 use Rattle.comm_rank.specs.Moves.{PutAllFailed, PutOut}
-use Rattle.comm_rank.proofs.Kept.{puts_then}
-use Rattle.comm_rank.proofs.Same.{same_rank}
-use Rattle.comm_rank.proofs.Turning.{full_then, looked_then, met_then, turned, was_cut}
+use Rattle.comm_rank.proofs.Running.Keeps.{puts_then}
+use Rattle.comm_rank.proofs.Rank.Same.{same_rank}
+use Rattle.comm_rank.proofs.Turns.Outcomes.{full_then, looked_then, met_then, turned, was_cut}
 use Rattle.comm_rank.proofs.comm.Comm.work.Goals as goal
 
 pub returns-in_err-put-clause-cut : goal.returns-in_err-put-clause-cut

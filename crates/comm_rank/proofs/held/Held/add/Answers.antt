@@ -5,11 +5,11 @@ use Rattle.world_core.specs.Log.{letters_of}
 use Rattle.list_facts.proofs.Elements.{all_append}
 use Rattle.comm_rank.specs.Held.{Gains, held_for}
 use Rattle.comm_rank.specs.Store.{AreHeld, IsHeldFor, Stored, holding}
-use Rattle.comm_rank.proofs.Holding.{gains, one_changed}
+use Rattle.comm_rank.proofs.Store.Apart.{gains, one_changed}
 use Rattle.list_facts.proofs.Fields.{field_read, field_same, field_written}
 use Rattle.list_facts.proofs.Outcomes.{either}
 use Rattle.std.proofs.lemmas.Result.{on_err_weaker, on_ok_weaker}
-use Rattle.comm_rank.proofs.Queues.{held_now, held_by}
+use Rattle.comm_rank.proofs.Store.Queues.{held_now, held_by}
 use Rattle.comm_rank.proofs.held.Held.add.Goals as goal
 
 pub returns-clause-ok : goal.returns-clause-ok

@@ -1,6 +1,6 @@
 use Rattle.std.proofs.Common.{ap, subst}
 use Rattle.comm_rank.specs.Store.{Stored, AreHeld}
-use Rattle.comm_rank.proofs.Holding.{apart}
+use Rattle.comm_rank.proofs.Store.Apart.{apart}
 use Rattle.comm_rank.proofs.held.Held.batches_for.Goals as goal
 
 pub returns-clause-apart : goal.returns-clause-apart

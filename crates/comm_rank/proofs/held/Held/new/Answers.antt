@@ -1,7 +1,7 @@
 use Rattle.std.proofs.Common.{◌≡◌, [], map, replicate, ap, ◌∙◌, sym, subst}
 use Rattle.std.proofs.Math.Nat.{le_antisymm}
 use Rattle.comm_rank.specs.Store.{AreHeld}
-use Rattle.comm_rank.proofs.Holding.{nothing_held}
+use Rattle.comm_rank.proofs.Store.Apart.{nothing_held}
 use Rattle.comm_rank.proofs.held.Held.new.Goals as goal
 
 pub invariant_of-result : goal.invariant_of-result

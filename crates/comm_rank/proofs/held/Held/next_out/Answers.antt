@@ -2,11 +2,11 @@ use Rattle.std.proofs.Common.{◌≡◌, ◌<◌, [], length, drop, map, set, ap
 use Rattle.std.proofs.lemmas.List.{get_or-set_same, length-map}
 use Rattle.comm_rank.specs.Held.{held_for}
 use Rattle.comm_rank.specs.Store.{AreHeld, IsHeldFor, Loses, Stored}
-use Rattle.comm_rank.proofs.Holding.{apart, one_changed}
+use Rattle.comm_rank.proofs.Store.Apart.{apart, one_changed}
 use Rattle.list_facts.proofs.Elements.{all_drop}
 use Rattle.list_facts.proofs.Fields.{field_now, field_read, field_written}
 use Rattle.std.proofs.lemmas.Option.{IfSome_then}
-use Rattle.comm_rank.proofs.Queues.{held_now, held_by, out_first, out_loses, out_one}
+use Rattle.comm_rank.proofs.Store.Queues.{held_now, held_by, out_first, out_loses, out_one}
 use Rattle.comm_rank.proofs.held.Held.next_out.Goals as goal
 
 pub returns-clause-others : goal.returns-clause-others

@@ -4,9 +4,9 @@ use Rattle.msg_codec.specs.declared.letter.Letter.{Letter}
 use Rattle.list_facts.proofs.Elements.{all_append}
 use Rattle.comm_rank.specs.Held.{held_for}
 use Rattle.comm_rank.specs.Store.{Stored, AreHeld, IsHeldFor}
-use Rattle.comm_rank.proofs.Holding.{apart, one_changed}
+use Rattle.comm_rank.proofs.Store.Apart.{apart, one_changed}
 use Rattle.list_facts.proofs.Fields.{field_read, field_written}
-use Rattle.comm_rank.proofs.Queues.{held_now, held_by}
+use Rattle.comm_rank.proofs.Store.Queues.{held_now, held_by}
 use Rattle.comm_rank.proofs.held.Held.step_back.Goals as goal
 
 pub returns-clause-back : goal.returns-clause-back

@@ -1,6 +1,6 @@
 use Rattle.std.proofs.Common.{◌≡◌, ◌∙◌, Some, slice_get, sym, ap, rules}
 use Rattle.std.proofs.lemmas.Option.{slice_get-get_or}
-use Rattle.comm_rank.proofs.Standing.{ranks_sent}
+use Rattle.comm_rank.proofs.Settled.AreRanks.{ranks_sent}
 use Rattle.comm_rank.proofs.tests.settling.Ranks.send_one.Goals as goal
 
 pub invariant_of-self : goal.invariant_of-self

@@ -3,7 +3,7 @@ use Rattle.ygm_route.specs.declared.scheme.Scheme.TheVariants.{Direct}
 use Rattle.world_core.specs.Plain.{fresh_links}
 use Rattle.comm_rank.specs.Agrees.{Agrees}
 use Rattle.comm_rank.specs.Rank.{Rank, fresh_rank}
-use Rattle.comm_rank.proofs.Standing.{ranks_new}
+use Rattle.comm_rank.proofs.Settled.AreRanks.{ranks_new}
 use Rattle.comm_rank.proofs.tests.settling.Ranks.with.Goals as goal
 
 pub invariant_of-result : goal.invariant_of-result

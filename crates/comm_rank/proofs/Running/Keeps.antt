@@ -6,8 +6,8 @@ use Rattle.world_core.proofs.Posts.CountsNeverFall.{never_fall_refl, never_fall_
 use Rattle.comm_rank.specs.Moves.{MoveKeeps}
 use Rattle.comm_rank.specs.Rank.{IsSameRank, Rank, local_of}
 use Rattle.comm_rank.specs.Running.{TakesKeep, WorkKeeps}
-use Rattle.comm_rank.proofs.Same.{same_none, same_then}
-use Rattle.comm_rank.proofs.Taking.{honest_on}
+use Rattle.comm_rank.proofs.Rank.Same.{same_none, same_then}
+use Rattle.comm_rank.proofs.Agrees.AfterTake.{honest_on}
 
 module _ {C : Type 0} (old mid : Rank C) (same : IsSameRank old mid) (a b c : Told) where
   pub work_then : WorkKeeps old a b → WorkKeeps mid b c → WorkKeeps old a c

@@ -23,7 +23,7 @@ use Rattle.comm_rank.specs.declared.fault.CommFault.{CommFault}
 use Rattle.comm_rank.specs.Moves.{HasPutAll, HasPutEach, MayPut, Moved, PutAllFailed, PutOut, PutsFailed}
 use Rattle.comm_rank.specs.Rank.{Rank, held_letters, local_of, ran_at, sent_to}
 use Rattle.comm_rank.specs.Turns.{FirstFull, IsPut}
-use Rattle.comm_rank.proofs.Direct.{nothing_to_forward}
+use Rattle.comm_rank.proofs.Agrees.Direct.{nothing_to_forward}
 
 -- ---- what a log took stands as it gains puts
 

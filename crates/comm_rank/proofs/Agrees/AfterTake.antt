@@ -28,8 +28,10 @@ use Rattle.comm_rank.specs.declared.fault.CommFault.{CommFault}
 use Rattle.comm_rank.specs.Running.{CutFrom, HasRunAll, IsFor, NotLookedAt, StuckIn, TookFrom, WasCutFrom}
 use Rattle.comm_rank.specs.Turns.{Advanced, LookedAt}
 use Rattle.list_facts.proofs.Sublist.{sublist_append}
-use Rattle.comm_rank.proofs.Arriving.{arrived-took, batch_for, for_all, forward_same, none_of_others, own-took, own_all, ran_all, ran_is}
-use Rattle.comm_rank.proofs.Folds.{fold-append, handed-append, if_full, rest_for}
+use Rattle.comm_rank.proofs.Agrees.Arrived.{arrived-took, batch_for, for_all, forward_same, none_of_others, own-took, own_all, ran_all, ran_is}
+use Rattle.comm_rank.proofs.Fold.Appended.{fold-append, handed-append, start_fold}
+use Rattle.comm_rank.proofs.Running.RunAll.{rest_for}
+use Rattle.comm_rank.proofs.Turns.Faults.{if_full}
 
 -- ---- the batch waits
 
@@ -83,11 +85,6 @@ taken_other from other batch log after is ne =
     ap (batches_taken other) is ∙ batches_taken-took log from other batch ∙ rw apart (append-nil (batches_taken other log))
 
 -- ---- the rank afterwards
-
-start_fold : {C : Type 0} (apply : Applies C) (start : C → C) → ((c : C) (here ranks : ℕ) (l : Letter) → start (apply c here ranks l).0 ≡ start c) →
-    (here ranks : ℕ) (c : C) (ls : List Letter) → start (fold_from apply here ranks c ls) ≡ start c
-start_fold apply start keeps here ranks c [] = refl
-start_fold apply start keeps here ranks c (l ∷ ls) = start_fold apply start keeps here ranks (apply c here ranks l).0 ls ∙ keeps c here ranks l
 
 module _ {C : Type 0} (apply : Applies C) (old new : Rank C) (log after : List Entry) (from : ℕ) (batch : List Letter) (same : IsSameRank old new) (gained : after ≡ log ++ Took from batch ∷ [])
     (all : AllByRecursion (IsFor old.here) batch) where

@@ -1,5 +1,5 @@
 -- What one turn over plain links does to them.
-use Rattle.std.proofs.Common.{◌≡◌, ◌≢◌, ◌⊎◌, ℕ, zero, suc, ◌+◌, ◌<◌, ◌≤◌, Bool, false, leb-true, lt-ltb, Some, List, [], ◌∷◌, ◌++◌, length, drop, set, slice_get, refl, sym, ap, ◌∙◌, subst, inl, inr, arith, append-nil, append_assoc, length-append, length-set}
+use Rattle.std.proofs.Common.{◌≡◌, ◌≢◌, ◌⊎◌, ℕ, ◌+◌, ◌<◌, ◌≤◌, Bool, false, leb-true, lt-ltb, Some, List, [], ◌++◌, length, drop, set, slice_get, refl, sym, ap, ◌∙◌, subst, inl, inr, arith, append-nil, append_assoc, length-append, length-set}
 use Rattle.std.proofs.lemmas.Bool.{cases_eq, or_cases}
 use Rattle.std.proofs.lemmas.Grind.{flat_map-append}
 use Rattle.std.proofs.lemmas.List.Elements.{filter-append}
@@ -23,9 +23,9 @@ use Rattle.comm_rank.specs.Settled.{AreRanks, AreSameLinks, AreSameRanks, HasAdv
 use Rattle.comm_rank.specs.Store.{AreApart}
 use Rattle.comm_rank.specs.Turns.{Advanced, LookedAt, NoneOrFull, Turned}
 use Rattle.list_facts.proofs.Places.{same_item, item_set, item_kept}
-use Rattle.comm_rank.proofs.Advancing.{stands}
-use Rattle.comm_rank.proofs.Loading.{carried_few, empty_link, one_more}
-use Rattle.comm_rank.proofs.Rounds.{same_taken}
+use Rattle.comm_rank.proofs.Settled.Advanced.{stands}
+use Rattle.comm_rank.proofs.Settled.Links.{carried_few, empty_link, one_more}
+use Rattle.comm_rank.proofs.Settled.Rounds.{same_taken}
 
 -- ---- lists with one element changed
 

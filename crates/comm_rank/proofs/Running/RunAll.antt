@@ -1,60 +1,30 @@
--- What a handler makes of letters that run one after another, and what it gives.
-use Rattle.std.proofs.Common.{◌≡◌, ℕ, zero, suc, ◌+◌, ◌<◌, List, [], ◌∷◌, ◌++◌, Some, Result, Ok, Err, OnErr, length, map, take, drop, slice_get, lt-ltb, refl, sym, ap, ◌∙◌, subst, inl, inr, arith, append-nil, append_assoc, length-append}
+-- Letters that ran one after another, and the one that could not run.
+use Rattle.std.proofs.Common.{◌≡◌, ℕ, ◌+◌, ◌<◌, List, [], ◌∷◌, ◌++◌, Some, length, map, take, drop, slice_get, lt-ltb, refl, sym, ap, ◌∙◌, subst, inl, inr, arith, append-nil, append_assoc, length-append}
 use Rattle.std.specs.List.{AllByRecursion}
 use Rattle.std.proofs.lemmas.List.{length-map, length-take-le}
 use Rattle.msg_codec.specs.declared.letter.Letter.{Letter}
 use Rattle.comm_rank.specs.declared.handler.Outbound.{Outbound}
 use Rattle.comm_rank.specs.declared.fault.CommFault.{CommFault}
-use Rattle.comm_rank.specs.declared.fault.CommFault.TheVariants.{Stopped, CountFull, NoMemory}
+use Rattle.comm_rank.specs.declared.fault.CommFault.TheVariants.{NoMemory}
 use Rattle.comm_rank.specs.Fault.{IfCountFull, IsFullAt, NeverStopped}
 use Rattle.comm_rank.specs.Fold.{Applies, letter_by, given_by, fold_from, handed_from}
 use Rattle.world_core.specs.Log.{letters_of}
 use Rattle.comm_rank.specs.Held.{Gains}
 use Rattle.comm_rank.specs.Rank.{IsSameRank, Rank, folded, handed, held_letters}
-use Rattle.comm_rank.specs.Turns.{HasBegun, IsCause, IsFullBehind}
+use Rattle.comm_rank.specs.Turns.{HasBegun, IsFullBehind}
 use Rattle.ygm_route.specs.Layout.{Shape}
 use Rattle.list_facts.proofs.Elements.{all_append, all_second}
 use Rattle.list_facts.proofs.Elements.{all_take}
 use Rattle.list_facts.proofs.Places.{item_first}
-use Rattle.comm_rank.proofs.Gaining.{gains_none, gains_more}
+use Rattle.comm_rank.proofs.Fold.Appended.{fold-append, handed-append}
+use Rattle.comm_rank.proofs.Turns.Faults.{cause_on, if_full}
+use Rattle.comm_rank.proofs.Gains.{gains_none, gains_more}
 use Rattle.comm_rank.specs.Running.{IsFor, IsOf, HasRunAll, IsStuck, RanFirst, StuckFirst, StuckIn}
 use Rattle.comm_rank.specs.Sends.{IsData}
-
-pub fold-append : {C : Type 0} (apply : Applies C) (here ranks : ℕ) (c : C) (xs ys : List Letter) →
-    fold_from apply here ranks c (xs ++ ys) ≡ fold_from apply here ranks (fold_from apply here ranks c xs) ys
-fold-append apply here ranks c [] ys = refl
-fold-append apply here ranks c (x ∷ xs) ys = fold-append apply here ranks (apply c here ranks x).0 xs ys
-
-pub handed-append : {C : Type 0} (apply : Applies C) (here ranks : ℕ) (c : C) (xs ys : List Letter) →
-    handed_from apply here ranks c (xs ++ ys) ≡ handed_from apply here ranks c xs ++ handed_from apply here ranks (fold_from apply here ranks c xs) ys
-handed-append apply here ranks c [] ys = refl
-handed-append apply here ranks c (x ∷ xs) ys =
-    ap (λ w. given_by apply here ranks c x ++ w) (handed-append apply here ranks (apply c here ranks x).0 xs ys)
-    ∙ sym (append_assoc (given_by apply here ranks c x) (handed_from apply here ranks (apply c here ranks x).0 xs) _)
 
 pub given_of : (ranks here : ℕ) (outs : List Outbound) → AllByRecursion (IsData ranks) outs → AllByRecursion (IsOf here) (map (letter_by here) outs)
 given_of ranks here [] h = tt
 given_of ranks here (o ∷ outs) h = (record { sender = refl; tag = lt-ltb o.tag 240 h.0.tag }, given_of ranks here outs h.1)
-
--- ---- faults
-
-pub if_full : {P Q : ℕ → Type 0} (fault : CommFault) → ((at : ℕ) → P at → Q at) → IfCountFull fault P → IfCountFull fault Q
-if_full Stopped more h = tt
-if_full NoMemory more h = tt
-if_full (CountFull at) more h = more at h
-
-pub full_at : (count most most' : ℕ) → most' ≡ most → (fault : CommFault) → IsFullAt count most fault → IsFullAt count most' fault
-full_at count most most' e (CountFull at) h = (h.0 ∙ sym e, h.1 ∙ sym e)
-full_at count most most' e Stopped h = tt
-full_at count most most' e NoMemory h = tt
-
--- the cause of a fault, as the rank had it before
-pub cause_on : {C : Type 0} (apply : Applies C) (old mid new : Rank C) → mid.most ≡ old.most → (fault : CommFault) → IsCause apply mid new fault → IsCause apply old new fault
-cause_on apply old mid new most fault cause = record {
-  count_full = full_at new.sent_count mid.most old.most (sym most) fault cause.count_full;
-  gave = cause.gave;
-  never_stopped = cause.never_stopped;
-}
 
 -- ---- one letter
 

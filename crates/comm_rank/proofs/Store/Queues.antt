@@ -1,12 +1,11 @@
 -- The lists of letters of queues, of which one changes.
-use Rattle.std.proofs.Common.{◌≡◌, ℕ, ◌<◌, Option, Some, None, Result, Ok, Err, List, [], ◌∷◌, ◌++◌, length, take, drop, map, get_or, set, sym, ap, ◌∙◌, subst, arith, OnSome, OnOk, OnErr}
+use Rattle.std.proofs.Common.{◌≡◌, ℕ, ◌<◌, Option, Some, None, List, [], ◌∷◌, ◌++◌, length, take, drop, set, sym, ap, ◌∙◌, subst, arith}
 use Rattle.std.specs.Option.{IfSome, MatchOption}
 use Rattle.std.specs.List.{AllByRecursion}
-use Rattle.std.proofs.lemmas.List.{map-set, set-get_or, get_or-map, get_or-set_same, length-map}
 use Rattle.msg_codec.specs.declared.letter.Letter.{Letter}
 use Rattle.comm_rank.specs.Held.{held_for}
 use Rattle.comm_rank.specs.Store.{AreHeld, IsHeldFor, Loses}
-use Rattle.comm_rank.proofs.Holding.{loses}
+use Rattle.comm_rank.proofs.Store.Apart.{loses}
 use Rattle.list_facts.proofs.Elements.{all_drop, all_take}
 use Rattle.list_facts.proofs.Singles.{first_and_rest}
 

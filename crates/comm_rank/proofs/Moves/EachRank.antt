@@ -11,7 +11,7 @@ use Rattle.world_core.specs.Post.{SameFulls, Told, is_full_in, link_in}
 use Rattle.comm_rank.specs.Moves.{Moved, PutUntil}
 use Rattle.comm_rank.specs.Store.{OthersUnchanged}
 use Rattle.comm_rank.specs.Turns.{FirstFull, NoneOrFull}
-use Rattle.comm_rank.proofs.PutOut.{same_batches_taken}
+use Rattle.comm_rank.proofs.Agrees.AfterPuts.{same_batches_taken}
 
 -- a full link stays full
 fuller : (ring batches ring' batches' n n' m m' : ℕ) → ring' ≡ ring → batches' ≡ batches → n ≤ n' → m ≤ m' → (nat_le ring n || nat_le batches m) ≡ true → (nat_le ring' n' || nat_le batches' m') ≡ true

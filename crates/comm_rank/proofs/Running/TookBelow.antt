@@ -1,5 +1,5 @@
 -- Takes from one rank after another.
-use Rattle.std.proofs.Common.{◌≡◌, ◌≢◌, ℕ, zero, suc, ◌+◌, ◌<◌, ◌≤◌, List, [], ◌∷◌, ◌++◌, length, get_or, refl, sym, ap, ◌∙◌, subst, inl, inr, arith, append-nil, append_assoc, length-append}
+use Rattle.std.proofs.Common.{◌≡◌, ◌≢◌, ℕ, ◌+◌, ◌<◌, ◌≤◌, List, [], ◌∷◌, ◌++◌, length, refl, sym, ap, ◌∙◌, subst, inl, inr, arith, append-nil, append_assoc, length-append}
 use Rattle.std.specs.List.{AllByRecursion, AllPairs}
 use Rattle.std.proofs.lemmas.Bool.{cases_eq}
 use Rattle.std.proofs.lemmas.Grind.{flat_map-append}
@@ -17,7 +17,8 @@ use Rattle.comm_rank.specs.Rank.{Rank, IsSameRank, handed, ran_at, sent_to}
 use Rattle.comm_rank.specs.declared.fault.CommFault.{CommFault}
 use Rattle.comm_rank.specs.Running.{CutFrom, NotLookedAt, TookBelow, TookFrom, WasCutFrom}
 use Rattle.comm_rank.specs.Turns.{Advanced, CutOff, FullAtFirst, IsTake, LookedAt, WasCut, other_end}
-use Rattle.comm_rank.proofs.Folds.{begun_same, cause_on, folded_on, full_later, handed_on, if_full}
+use Rattle.comm_rank.proofs.Running.RunAll.{begun_same, folded_on, full_later, handed_on}
+use Rattle.comm_rank.proofs.Turns.Faults.{cause_on, if_full}
 
 -- ---- in the order of ranks
 

@@ -1,5 +1,5 @@
 -- What a log has once it gained a take, and what ran then.
-use Rattle.std.proofs.Common.{◌≡◌, ◌≢◌, ℕ, suc, ◌-◌, ◌<◌, Bool, true, false, ◌&&◌, not, nat_eq, eqb-true, eq-eqb, List, [], ◌∷◌, ◌++◌, length, take, drop, refl, sym, ap, ◌∙◌, subst, inl, inr, arith, append-nil, length-append, if◌then◌else◌}
+use Rattle.std.proofs.Common.{◌≡◌, ◌≢◌, ℕ, suc, ◌-◌, ◌<◌, Bool, true, false, ◌&&◌, not, nat_eq, eqb-true, eq-eqb, List, [], ◌∷◌, ◌++◌, length, take, drop, refl, sym, ap, ◌∙◌, subst, arith, append-nil, length-append, if◌then◌else◌}
 use Rattle.std.specs.Bool.{IsTrue}
 use Rattle.std.specs.List.{AllByRecursion}
 use Rattle.std.proofs.Math.Seq.{take-append_seam}
@@ -26,7 +26,6 @@ use Rattle.list_facts.proofs.Elements.{all_second, all_weaker}
 use Rattle.list_facts.proofs.Filters.{filter_none}
 use Rattle.list_facts.proofs.Tests.{and_first, and_second}
 use Rattle.world_core.proofs.Log.ByLink.{all_taken}
-use Rattle.list_facts.specs.Sublist.{IsSublist}
 use Rattle.comm_rank.specs.Rank.{Rank, ran_at}
 use Rattle.comm_rank.specs.Running.{IsFor, IsOf}
 

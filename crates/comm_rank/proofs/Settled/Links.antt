@@ -1,5 +1,5 @@
 -- What a sound world of straight links says of one link.
-use Rattle.std.proofs.Common.{◌≡◌, ℕ, zero, suc, ◌+◌, ◌<◌, ◌≤◌, Bool, true, false, ◌&&◌, nat_eq, eqb-true, eq-eqb, Some, None, List, [], ◌∷◌, ◌++◌, length, drop, take, filter, slice_get, refl, sym, ap, ◌∙◌, subst, arith, append-nil, length-append, if◌then◌else◌}
+use Rattle.std.proofs.Common.{◌≡◌, ℕ, zero, suc, ◌+◌, ◌<◌, ◌≤◌, Bool, true, false, ◌&&◌, nat_eq, eqb-true, eq-eqb, Some, None, List, [], ◌∷◌, ◌++◌, length, drop, take, slice_get, refl, sym, ap, ◌∙◌, subst, arith, append-nil, length-append, if◌then◌else◌}
 use Rattle.std.specs.Bool.{IsTrue}
 use Rattle.std.specs.List.{AllByRecursion, cons_option}
 use Rattle.std.proofs.Math.Seq.{drop-append_seam}
@@ -23,7 +23,7 @@ use Rattle.list_facts.proofs.Elements.{all_prefix, all_second, all_weaker}
 use Rattle.list_facts.proofs.Tests.{and_first, and_second}
 use Rattle.world_core.proofs.Sound.OnPath.{carried_put, carried_taken}
 use Rattle.world_core.proofs.Log.ByLink.{only_put, only_taken}
-use Rattle.comm_rank.proofs.Arriving.{crossed_direct, crossed_from}
+use Rattle.comm_rank.proofs.Agrees.Arrived.{crossed_direct, crossed_from}
 
 abbrev HasSome : List Letter → Type 0
 HasSome batch = 1 ≤ length batch

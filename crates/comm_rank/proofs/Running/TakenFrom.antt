@@ -11,8 +11,8 @@ use Rattle.comm_rank.specs.Agrees.{Agrees, Belongs}
 use Rattle.comm_rank.specs.Fold.{Applies}
 use Rattle.comm_rank.specs.Rank.{IsSameRank, Rank, local_of}
 use Rattle.comm_rank.specs.Running.{HasRunAll, HasTakenFrom, IsFor, StuckIn, TakesKeep, WasCutFrom}
-use Rattle.comm_rank.proofs.Same.{belongs_still}
-use Rattle.comm_rank.proofs.Taking.{Arrival, agrees_now, arrival, cut_from, few_run, honest_took, link_stands, looked_none, not_looked_none, same_log, taken_here, taken_other, took_from, took_none}
+use Rattle.comm_rank.proofs.Rank.Same.{belongs_still}
+use Rattle.comm_rank.proofs.Agrees.AfterTake.{Arrival, agrees_now, arrival, cut_from, few_run, honest_took, link_stands, looked_none, not_looked_none, same_log, taken_here, taken_other, took_from, took_none}
 
 module _ {C : Type 0} (apply : Applies C) (start : C → C) (old : Rank C) (there from : ℕ) (before after : Told) (e : there ≡ old.here) (belongs : Belongs apply start old before) (keeps : TakeKeeps there before after) where
   takes_keep : CountsNeverFall before after → (IsHonest (local_of old (before.log old.here)) → IsHonest (local_of old (after.log old.here))) → TakesKeep old before after

@@ -22,13 +22,13 @@ use Rattle.comm_rank.specs.Rank.{Rank, IsSameRank}
 use Rattle.comm_rank.specs.Settled.{AreRanks, FailedAt, HaltedAt, IsRankOf, LastTurn, LogsGrow}
 use Rattle.comm_rank.specs.Turns.{CutOff, FullAtFirst, Gained, HasEnded, HasFailed, HasHalted, KeepsPost}
 use Rattle.list_facts.proofs.Places.{same_item}
-use Rattle.comm_rank.proofs.Advancing.{advanced_none, cut_at_once}
-use Rattle.comm_rank.proofs.Folds.{full_at}
-use Rattle.comm_rank.proofs.Same.{same_rank_none}
-use Rattle.comm_rank.proofs.Turning.{unless_stopped_then}
+use Rattle.comm_rank.proofs.Settled.Advanced.{advanced_none, cut_at_once}
+use Rattle.comm_rank.proofs.Turns.Faults.{full_at}
+use Rattle.comm_rank.proofs.Rank.Same.{same_rank_none}
+use Rattle.comm_rank.proofs.Turns.Faults.{unless_stopped_then}
 use Rattle.list_facts.proofs.Places.{item_set}
-use Rattle.comm_rank.proofs.Moving.{TurnAt, others_go_on, others_stand}
-use Rattle.comm_rank.proofs.Stops.{if_stopped}
+use Rattle.comm_rank.proofs.Settled.TurnMoves.{TurnAt, others_go_on, others_stand}
+use Rattle.comm_rank.proofs.Settled.Stops.{if_stopped}
 
 module _ {C : Type 0} (apply : Applies C) (start : C → C) (comms : List (Rank C)) (links : Plain) (rank : ℕ) (ranks : AreRanks apply start comms links) (within : rank < length comms) (read : Rank C) where
   pub there : slice_get comms rank ≡ Some (get_or comms rank read)

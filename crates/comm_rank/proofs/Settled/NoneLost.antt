@@ -20,12 +20,12 @@ use Rattle.comm_rank.specs.Settled.{AreRanks, AreSameLinks, AreSameRanks, Failed
 use Rattle.comm_rank.specs.Turns.{CutOff}
 use Rattle.comm_rank.specs.declared.fault.CommFault.{CommFault}
 use Rattle.list_facts.proofs.Places.{item_there, same_item}
-use Rattle.comm_rank.proofs.Arriving.{ran_all, ran_is}
+use Rattle.comm_rank.proofs.Agrees.Arrived.{ran_all, ran_is}
 use Rattle.list_facts.proofs.Filters.{filter_within}
-use Rattle.comm_rank.proofs.Beginnings.{pair_of_rank}
-use Rattle.comm_rank.proofs.Joining.{taken_append}
-use Rattle.comm_rank.proofs.Loading.{put_is, taken_is}
-use Rattle.comm_rank.proofs.PutOut.{same_taken}
+use Rattle.comm_rank.proofs.Rank.RanFrom.{pair_of_rank}
+use Rattle.comm_rank.proofs.Running.TookBelow.{taken_append}
+use Rattle.comm_rank.proofs.Settled.Links.{put_is, taken_is}
+use Rattle.comm_rank.proofs.Agrees.AfterPuts.{same_taken}
 
 -- ---- a link
 

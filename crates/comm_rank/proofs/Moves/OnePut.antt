@@ -22,7 +22,7 @@ use Rattle.world_core.specs.Rules.Deed.{Puts}
 use Rattle.world_core.proofs.Deeds.Honest.{honest_more}
 use Rattle.world_core.proofs.Pairs.Appended.{pair_put-put, own-put}
 use Rattle.list_facts.proofs.Elements.{all_append}
-use Rattle.comm_rank.proofs.Same.{same_then}
+use Rattle.comm_rank.proofs.Rank.Same.{same_then}
 use Rattle.world_core.proofs.Posts.CountsNeverFall.{never_fall_refl, never_fall_trans}
 use Rattle.world_core.proofs.Deeds.EachLetter.{hop_right, held_own, not_too_many}
 use Rattle.world_core.proofs.Deeds.Table.{table}

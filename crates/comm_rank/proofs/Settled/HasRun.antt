@@ -1,5 +1,5 @@
 -- Where all that a rank had sent was taken, it ran.
-use Rattle.std.proofs.Common.{◌≡◌, ℕ, ◌<◌, ◌≤◌, Some, List, [], ◌∷◌, ◌++◌, length, get_or, slice_get, refl, sym, ap, ◌∙◌, subst, arith, length-append}
+use Rattle.std.proofs.Common.{◌≡◌, ℕ, ◌<◌, ◌≤◌, Some, List, [], length, get_or, slice_get, sym, ap, ◌∙◌, subst, arith, length-append}
 use Rattle.std.proofs.lemmas.Option.{slice_get_within}
 use Rattle.list_facts.proofs.Prefix.{prefix_shorter}
 use Rattle.world_core.specs.declared.entry.Entry.{Entry}
@@ -15,9 +15,9 @@ use Rattle.comm_rank.specs.Fold.{Applies}
 use Rattle.comm_rank.specs.Rank.{Rank, held_letters, handed, ran_from, sent_to}
 use Rattle.comm_rank.specs.Settled.{AllTaken, AreRanks, HasAdvanced, HasRun, sent_length}
 use Rattle.list_facts.proofs.Places.{item_there}
-use Rattle.comm_rank.proofs.Arriving.{ran_all}
-use Rattle.comm_rank.proofs.Beginnings.{pair_of_rank, ran_begins}
-use Rattle.comm_rank.proofs.Moving.{sent_at}
+use Rattle.comm_rank.proofs.Agrees.Arrived.{ran_all}
+use Rattle.comm_rank.proofs.Rank.RanFrom.{pair_of_rank, ran_begins}
+use Rattle.comm_rank.proofs.Settled.TurnMoves.{sent_at}
 
 pub ran_is_taken : {C : Type 0} (me : Rank C) (log : List Entry) (from to : ℕ) → me.here ≡ to → me.waiting ≡ [] → ran_from me log from ≡ pair_taken from to log
 ran_is_taken me log from to here none =

@@ -11,15 +11,14 @@ use Rattle.world_core.specs.Pairs.{for_rank, of_pair}
 use Rattle.world_core.specs.Post.{SameFulls, SameMisses, Told, is_full_in}
 use Rattle.world_core.specs.Rising.{Rose}
 use Rattle.comm_rank.specs.declared.fault.CommFault.{CommFault}
-use Rattle.comm_rank.specs.declared.fault.CommFault.TheVariants.{Stopped, CountFull, NoMemory}
-use Rattle.comm_rank.specs.Fault.{UnlessStopped}
+use Rattle.comm_rank.specs.declared.fault.CommFault.TheVariants.{NoMemory}
 use Rattle.comm_rank.specs.Fold.{Applies}
 use Rattle.comm_rank.specs.declared.turn.Turn.{Turn}
 use Rattle.comm_rank.specs.Moves.{PutOut}
 use Rattle.comm_rank.specs.Rank.{Rank, halted, handed, sent_to}
 use Rattle.comm_rank.specs.Running.{TookAll}
 use Rattle.comm_rank.specs.Turns.{CutOff, FirstFull, FullAtFirst, IsCause, IsPut, LookedAt, NoneOrFull, Turned, WasCut}
-use Rattle.comm_rank.proofs.Folds.{if_full}
+use Rattle.comm_rank.proofs.Turns.Faults.{if_full}
 
 none_taken : (from : ℕ) (placed : List Entry) → AllByRecursion IsPut placed → batches_taken from placed ≡ []
 none_taken from [] h = refl
@@ -147,13 +146,3 @@ module _ {C : Type 0} (apply : Applies C) (old was mid : Rank C) (before looked 
         full_at_first = if_full fault (λ _ full. full_stopped full) w.full_at_first;
         cause = record { count_full = cause.count_full; gave = cause.gave; never_stopped = cause.never_stopped };
       }
-
-pub unless_stopped : {P : Type 0} (fault : CommFault) → P → UnlessStopped fault P
-unless_stopped Stopped p = tt
-unless_stopped (CountFull at) p = p
-unless_stopped NoMemory p = p
-
-pub unless_stopped_then : {P Q : Type 0} (fault : CommFault) → (P → Q) → UnlessStopped fault P → UnlessStopped fault Q
-unless_stopped_then Stopped f p = tt
-unless_stopped_then (CountFull at) f p = f p
-unless_stopped_then NoMemory f p = f p

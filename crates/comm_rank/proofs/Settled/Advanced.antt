@@ -1,6 +1,6 @@
 -- Ranks that go on, turn by turn.
 use Rattle.std.proofs.Common.{◌≡◌, ℕ, Some, List, [], ◌++◌, length, get_or, slice_get, refl, sym, ap, ◌∙◌, subst, inl, arith, append-nil}
-use Rattle.std.proofs.lemmas.Option.{same_Some, slice_get-get_or, slice_get_within}
+use Rattle.std.proofs.lemmas.Option.{same_Some}
 use Rattle.list_facts.proofs.Places.{same_item, item_there}
 use Rattle.world_core.specs.declared.entry.Entry.{Entry}
 use Rattle.world_core.specs.Pairs.{for_rank}
@@ -13,9 +13,9 @@ use Rattle.comm_rank.specs.Rank.{Rank, IsSameRank, halted}
 use Rattle.comm_rank.specs.Settled.{AreSameLinks, AreSameRanks, FailedAt, HasAdvanced, LogsGrow}
 use Rattle.comm_rank.specs.Turns.{Advanced, CutOff}
 use Rattle.comm_rank.specs.declared.fault.CommFault.{CommFault}
-use Rattle.comm_rank.proofs.Joining.{advanced_more}
-use Rattle.comm_rank.proofs.Same.{same_rank_more, same_rank_none}
-use Rattle.comm_rank.proofs.Stops.{if_stopped}
+use Rattle.comm_rank.proofs.Running.TookBelow.{advanced_more}
+use Rattle.comm_rank.proofs.Rank.Same.{same_rank_more, same_rank_none}
+use Rattle.comm_rank.proofs.Settled.Stops.{if_stopped}
 
 pub advanced_none : {C : Type 0} (apply : Applies C) (me : Rank C) (log : List Entry) → Advanced apply me me log log []
 advanced_none apply me log = record { ran = sym (append-nil _); contents = refl; sent = λ to. sym (append-nil _); run_count = omega arith; sent_count = omega arith }

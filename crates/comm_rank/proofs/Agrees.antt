@@ -1,0 +1,6 @@
+pub mod AfterPuts
+pub mod AfterSend
+pub mod AfterTake
+pub mod Arrived
+pub mod Direct
+pub mod Fresh

@@ -1,0 +1,45 @@
+-- A rank that agrees with its log and sends a letter still agrees with it.
+use Rattle.std.proofs.Common.{◌≡◌, ◌≢◌, ℕ, ◌+◌, true, false, ◌&&◌, nat_eq, eq-eqb, eqb-true, List, [], ◌∷◌, ◌++◌, length, refl, sym, ap, ◌∙◌, subst, append-nil, append_assoc, arith}
+use Rattle.std.specs.Bool.{IsTrue}
+use Rattle.std.proofs.lemmas.Bool.{false_from_ne_true}
+use Rattle.msg_codec.specs.declared.letter.Letter.{Letter}
+use Rattle.world_core.specs.declared.entry.Entry.{Entry}
+use Rattle.world_core.specs.Log.{letters_of}
+use Rattle.world_core.specs.Pairs.{is_data, is_of_pair, of_pair, of_sender, pair_put}
+use Rattle.list_facts.proofs.Tests.{and_first, and_second}
+use Rattle.list_facts.specs.Sublist.{IsSublist}
+use Rattle.list_facts.proofs.Sublist.{sublist_longer}
+use Rattle.comm_rank.specs.Agrees.{Agrees}
+use Rattle.comm_rank.specs.Fold.{Applies}
+use Rattle.comm_rank.specs.Held.{Gains}
+use Rattle.comm_rank.specs.Rank.{Rank, held_letters, sent_to}
+
+not_of_pair : (from to here : ℕ) (l : Letter) → l.from ≡ here → from ≢ here → is_of_pair from to l ≡ false
+not_of_pair from to here l mine other = false_from_ne_true (is_of_pair from to l) (λ yes.
+    other (sym (eqb-true l.from from (and_second (is_data l) (nat_eq l.from from) (and_first (is_data l && nat_eq l.from from) (nat_eq l.to to) yes))) ∙ mine))
+
+module _ {C : Type 0} (apply : Applies C) (start : C → C) (me : Rank C) (log : List Entry) (agrees : Agrees apply start me log) (held : List (List Letter)) (count : ℕ) where
+  -- one letter more of its own is held and counted
+  pub agrees_sent : (l : Letter) → l.from ≡ me.here → IsTrue (is_data l) → Gains (held_letters me) (letters_of held) (l ∷ []) → count ≡ me.sent_count + 1 →
+      Agrees apply start (record me { sent_count = count; held = held }) log
+  agrees_sent l mine tagged gains counted =
+      let one : length (of_sender me.here (l ∷ [])) ≡ 1 = (let e : nat_eq l.from me.here ≡ true = eq-eqb _ _ mine in rw (tagged, e) refl) in
+      record {
+        nothing_waits = agrees.nothing_waits;
+        forwards = λ from to other.
+            let none : of_pair from to (l ∷ []) ≡ [] = rw (not_of_pair from to me.here l mine other) refl in
+            gains.pairs from to ∙ ap (λ xs. of_pair from to (held_letters me) ++ xs) none ∙ append-nil _ ∙ agrees.forwards from to other;
+        sent_count = omega (arith, counted, agrees.sent_count, gains.senders me.here, one);
+        run_count = agrees.run_count;
+        contents = agrees.contents;
+        answered = λ to.
+            let longer : sent_to me log to ++ of_pair me.here to (l ∷ []) ≡ sent_to (record me { sent_count = count; held = held }) log to =
+            append_assoc (pair_put me.here to log) (of_pair me.here to (held_letters me)) (of_pair me.here to (l ∷ [])) ∙ ap (λ xs. pair_put me.here to log ++ xs) (sym (gains.pairs me.here to)) in
+            subst (IsSublist _) longer (sublist_longer (of_pair me.here to (l ∷ [])) (agrees.answered to));
+        modest = agrees.modest;
+      }
+
+  pub agrees_unchanged : held ≡ me.held → count ≡ me.sent_count → Agrees apply start (record me { sent_count = count; held = held }) log
+  agrees_unchanged same counted =
+      let P : ℕ → List (List Letter) → Type 0 = λ n ls. Agrees apply start (record me { sent_count = n; held = ls }) log in
+      subst (λ n. P n held) (sym counted) (subst (λ ls. P me.sent_count ls) (sym same) agrees)

@@ -1,0 +1,3 @@
+pub mod RanFrom
+pub mod Same
+pub mod Sent

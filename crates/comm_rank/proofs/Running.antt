@@ -1,0 +1,4 @@
+pub mod Keeps
+pub mod RunAll
+pub mod TakenFrom
+pub mod TookBelow

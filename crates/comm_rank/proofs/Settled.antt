@@ -1,0 +1,9 @@
+pub mod Advanced
+pub mod AreRanks
+pub mod HasRun
+pub mod Links
+pub mod NoneLost
+pub mod PlainTurn
+pub mod Rounds
+pub mod Stops
+pub mod TurnMoves
