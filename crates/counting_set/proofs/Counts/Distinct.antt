@@ -10,7 +10,7 @@ use Rattle.comm_rank.specs.Fold.{fold_from}
 use Rattle.counting_set.specs.Counting.{Counts, added, adds, counting_apply}
 use Rattle.counting_set.proofs.Counts.After.{after, fold-after}
 
--- what stands later has another item
+-- a later pair has another item
 abbrev pub IsOther : List ℕ × ℕ → List ℕ × ℕ → Type 0
 IsOther pair later = pair.0 ≢ later.0
 

@@ -6,7 +6,7 @@ use Rattle.counting_set.specs.Counting.{adds, add_letter}
 use Rattle.counting_set.specs.ItemCount.{spelled_item_count}
 use Rattle.counting_set.proofs.ItemCount.Again.{item_count_again}
 
--- what `count_insert` sends adds one of its item
+-- the letter that `count_insert` sends adds one of its item
 pub add_letter_adds : (to from : ℕ) (item : List ℕ) → length item ≤ 1000100 → adds (add_letter to from item) ≡ Some (item, 1)
 add_letter_adds to from item short =
     let few : nat_le (length (spelled_item_count item 1)) 1000200 ≡ true = le-leb _ _ (omega (arith, short, length-append item (spelled_number 1))) in

@@ -53,7 +53,7 @@ pub all_fit : (letters : List Letter) → All (λ l. AreBytes l.body) letters �
 all_fit [] fit = tt
 all_fit (l ∷ ls) fit = (adds_fits l (fit 0 l (omega arith)), all_fit ls (λ k d lt. fit (suc k) d (omega (arith, lt))))
 
--- whatever letters run, the count of an item is what it was and what they add to it
+-- whatever letters run, the count of an item is its count before plus what they add to it
 pub counts_are_sums : (here ranks : ℕ) (contents : Counts) (letters : List Letter) (item : List ℕ) → count_in contents item < 2 ^ 64 → All (λ l. AreBytes l.body) letters
     → count_in (fold_from counting_apply here ranks contents letters) item ≡ held (count_in contents item + sum_by (adds_of item) letters)
 counts_are_sums here ranks contents letters item lt fit =
