@@ -1,10 +1,11 @@
 -- Only private functions cite this module: what plain links keep of each link, and what calls do to that.
 use Rattle.std.specs.Prelude.{◌≡◌, ◌≢◌, ℕ, ◌+◌, ◌*◌, ◌<◌, ◌≤◌, Bool, List, [], ◌∷◌, ◌++◌, length, drop, map, slice_index_or, slice_set}
 use Rattle.msg_codec.specs.declared.letter.Letter.{Letter}
+use Rattle.world_core.specs.declared.entry.Entry.TheVariants.{Put}
 use Rattle.world_core.specs.Log.{batches_put}
 use Rattle.world_core.specs.Modest.{IsWorld}
 use Rattle.rising_counts.specs.Rising.{Rose, next_count}
-use Rattle.world_core.specs.World.{Logs, link, log_of}
+use Rattle.world_core.specs.World.{Logs, gaining, link, log_of}
 
 -- what the code keeps of one link: its batches, how many it has carried, and the memory reserved for more
 pub record Kept : Type 0 where
@@ -41,6 +42,18 @@ pub record LinkGave (place : ℕ) (batch : List Letter) (old new : List Kept) : 
   pub batches : batches_in new ≡ slice_set (batches_in old) place (drop 1 (batches_at old place))
   pub carried : carried_by new ≡ carried_by old
 
+-- a batch went into a link and, as letters, into the log of the world
+pub record PutAt (place from to : ℕ) (letters batch : List Letter) (old new : List Kept) (before after : Logs) : Type 0 where
+  pub link : LinkGot place batch old new
+  pub log : after ≡ gaining before from (Put to letters)
+  pub sound : IsWorld after
+
+-- nothing changed, and the batch comes back
+pub record NotPutAt (batch returned : List Letter) (old new : List Kept) (before after : Logs) : Type 0 where
+  pub links : SameLinks old new
+  pub world : after ≡ before
+  pub back : returned ≡ batch
+
 -- the count of one rank has one more, and the others are unchanged
 pub record Counted (rank : ℕ) (old new : List ℕ) : Type 0 where
   pub one_more : slice_index_or new rank 0 ≡ next_count (slice_index_or old rank 0)
@@ -48,7 +61,8 @@ pub record Counted (rank : ℕ) (old new : List ℕ) : Type 0 where
   pub never_falls : slice_index_or old rank 0 ≤ slice_index_or new rank 0
   pub others : (other : ℕ) → other ≢ rank → slice_index_or new other 0 ≡ slice_index_or old other 0
 
--- Links, of which those of one sender stand together, have the batches and the counts that the logs of a sound world say.
+-- Links, of which those of one sender stand together, have the batches and the counts that the logs of a sound world
+-- say.
 pub record AreLinks (world : Logs) (n : ℕ) (batches : List (List (List Letter))) (carried : List ℕ) : Type 0 where
   pub sound : IsWorld world
   pub ranks : world.layout.ranks ≡ n

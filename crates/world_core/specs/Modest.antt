@@ -15,8 +15,8 @@ pub record IsLawful (me : Local) (l : Letter) : Type 0 where
   pub sender : IsTrue (is_rank me.layout l.from)
   pub tag : IsTrue (is_data l)
 
--- A log is modest: it took no more letters for its rank than all ranks together may send, each of its letters
--- is lawful, and each came over a link of its path.
+-- A log is modest: it took no more letters for its rank than all ranks together may send. Each letter that it took is
+-- lawful, and came over a link of its path.
 pub record IsModest (me : Local) : Type 0 where
   pub few : length (arrived me.here me.log) ≤ most_arrived
   pub lawful : AllByRecursion (IsLawful me) (letters_taken me.log)

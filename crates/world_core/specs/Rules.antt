@@ -1,5 +1,5 @@
--- The rules of a world, as one table: what a rank does breaks the first of them that it or one of its
--- letters breaks.
+-- The rules of a world, as one table. What a rank does is refused for the first rule that it, or one of its letters,
+-- breaks.
 use Rattle.std.specs.Prelude.{◌≡◌, ℕ, Bool, false, not, ◌&&◌, ◌||◌, ◌==◌, nat_eq, nat_lt, Option, Some, None, List, [], ◌∷◌, ◌++◌, length, take, slice_get, if◌then◌else◌}
 use Rattle.std.specs.List.{list_any}
 use lib.Pointwise.{pointwise}
@@ -35,7 +35,7 @@ empty_batch me (Takes from some) = false
 
 -- ---- rules on one letter that is put to a rank
 
--- there are no letters with other tags yet
+-- letters with other tags don't exist yet
 abbrev pub bad_tag : Local → ℕ → Letter → Bool
 bad_tag me to l = not (is_data l)
 
@@ -55,7 +55,7 @@ not_held me to l = is_data l && not (l.from == me.here) && not (is_first_of (to_
 abbrev pub too_many_sent : Local → ℕ → Letter → Bool
 too_many_sent me to l = is_data l && (l.from == me.here) && not (nat_lt (length (own me.here me.log)) most_letters)
 
--- a letter breaks the rule, each being tried as if those before it had been put
+-- some letter breaks the rule, where each is tried as if those before it had been put
 abbrev pub some_letter_after : (Local → ℕ → Letter → Bool) → List Letter → List Letter → Local → ℕ → Bool
 some_letter_after breaks before [] me to = false
 some_letter_after breaks before (l ∷ letters) me to =
@@ -95,8 +95,8 @@ first_broken me deed = first_broken_of rules me deed
 
 -- ---- honest logs
 
--- A log is honest where no Put of it breaks a rule, each tried for the log before it. What the log took is
--- not asked for: it is tried alone.
+-- A log is honest where no Put of it breaks a rule, each tried against the log before it. It doesn't matter what the
+-- log took.
 abbrev pub IsHonest : Local → Type 0
 IsHonest me = (k to : ℕ) (letters : List Letter) → slice_get me.log k ≡ Some (Put to letters) →
     first_broken (record me { log = take k me.log }) (Puts to letters) ≡ None

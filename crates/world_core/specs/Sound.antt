@@ -20,9 +20,9 @@ LinksAgree world = (from to : ℕ) → IsPrefix (batches_taken from (log_of worl
 abbrev pub IsOnPath : Shape → Scheme → ℕ → ℕ → Letter → Type 0
 IsOnPath layout scheme a b l = IsTrue (is_data l) → IsTrue (crosses (path layout scheme l.from l.to) a b)
 
--- The logs are honest and agree about each link. Of each pair of ranks, what came is a prefix of what its
--- sender put; what each rank between them put is a prefix of what it took; and its letters are put and taken
--- on the links of their path alone.
+-- The logs are honest and agree about each link. Of each pair of ranks, what arrived is a prefix of what the sender
+-- put. What each rank between them put is a prefix of what it took. The letters of the pair are put and taken on the
+-- links of their path alone.
 pub record IsSound (world : Logs) : Type 0 where
   pub laid_out : IsLayout world.layout
   pub all_ranks : length world.logs ≡ world.layout.ranks

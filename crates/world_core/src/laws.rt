@@ -1,5 +1,5 @@
-//! What keeps a world sound. Each law is the contract of a function that does nothing: a caller that calls
-//! it may rely on it. They speak of logs alone, whatever carries the letters.
+//! What keeps a world sound. Each law is the contract of a function that does nothing, so a caller may rely on
+//! it. The laws speak of logs alone, whatever carries the letters.
 ghost use Rattle.std.specs.Prelude.{◌≡◌, ◌↔◌, ◌^◌, true, ℕ, List, [], ◌∷◌, None, Some, length, slice_get};
 ghost use Rattle.world_core.specs.Worked.{start, one, one_put};
 ghost use Rattle.world_core.specs.declared.entry.Event.TheVariants.{Put as PutEvent, Take};
@@ -17,21 +17,21 @@ ghost use Rattle.world_core.specs.World.{Logs, fresh, gaining, local, log_of, re
 
 use crate::Limits;
 
-/// A world in which nothing happened is sound.
+/// A world in which nothing happened yet is sound.
 #[tactic(auto, using(crate::proofs::Modest::EachEvent::fresh_is_world))]
 pub fn a_fresh_world_is_sound()
     ensures { (layout : Shape) (scheme : Scheme) → IsLayout layout → IsWorld (fresh layout scheme) }
 {}
 
-/// An honest put keeps a sound world. Whether it is honest, the log of the rank that puts says alone.
+/// An honest put keeps a sound world sound. Whether it is honest depends on the log of its rank alone.
 pub fn an_honest_put_keeps_a_sound_world()
     ensures { (world : Logs) (from to : ℕ) (letters : List Letter) → IsWorld world →
         first_broken (local world from) (Puts to letters) ≡ None →
         IsWorld (gaining world from (Put to letters)) }
 {}
 
-/// A take of the next number keeps a sound world: of the batch that the sender's log put over the link after
-/// as many as the log of the rank that takes took from there.
+/// Taking the next batch of a link keeps a sound world sound. The next batch is the first that the sender's log
+/// put there and the log of the rank that takes didn't take yet.
 pub fn taking_the_next_batch_keeps_a_sound_world()
     ensures { (world : Logs) (from to : ℕ) (letters : List Letter) → IsWorld world →
         slice_get (batches_put to (log_of world from)) (length (batches_taken from (log_of world to))) ≡ Some letters →
@@ -56,7 +56,7 @@ pub fn the_greatest_limits() -> Limits
     Limits::FULL
 }
 
-/// Letters are tried as the same exactly where they are equal.
+/// The comparison of letters is equality.
 pub fn letters_are_the_same_where_they_are_equal()
     ensures { (a b : Letter) → same_letter a b ≡ true ↔ a ≡ b }
 {}

@@ -14,7 +14,7 @@ pub enum Why {
     /// A put of no letter.
     #[error("the batch is empty")]
     EmptyBatch,
-    /// A put of a letter with a tag that letters don't have.
+    /// A put of a letter with a tag that no letter may have.
     #[error("a letter has a bad tag")]
     BadTag,
     /// A put over a link that doesn't end at the letter's next hop.
@@ -24,7 +24,7 @@ pub enum Why {
     /// rank to that destination.
     #[error("a letter isn't the next to be forwarded")]
     NotHeld,
-    /// A put of an own letter by a rank that has put as many as it may.
+    /// A put of a letter of its own by a rank that has put as many as it may.
     #[error("the rank has sent as many letters as it may")]
     TooManySent,
 }

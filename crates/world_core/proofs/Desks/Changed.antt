@@ -1,4 +1,4 @@
--- Lists of desks, of which one changes after another.
+-- Lists of desks of which one changes, and then another.
 use Rattle.std.proofs.Common.{◌≡◌, ℕ, ◌<◌, List, [], ◌∷◌, ◌++◌, length, drop, get_or, set, sym, ap, ◌∙◌}
 use Rattle.std.proofs.lemmas.List.{get_or-map}
 use Rattle.msg_codec.specs.declared.letter.Letter.{Letter}
@@ -17,11 +17,11 @@ same_desks ds i x d within log inbox = record {
 pub same_twice : (a b c : List Desk) → SameDesks a b → SameDesks b c → SameDesks a c
 same_twice a b c f s = record { logs = s.logs ∙ f.logs; inboxes = s.inboxes ∙ f.inboxes }
 
--- what a desk that is read has in its inbox
+-- the inbox of a desk
 pub inbox_read : (ds : List Desk) (i : ℕ) (x : Desk) → i < length ds → (get_or ds i x).inbox ≡ inbox_at ds i
 inbox_read ds i x within = sym (get_or-map (λ desk. desk.inbox) ds i x [] within)
 
--- a batch that is let wait
+-- a batch goes into an inbox
 pub received : (ds : List Desk) (from to : ℕ) (copied : List Letter) (x d : Desk) → to < length ds → d.log ≡ (get_or ds to x).log →
     d.inbox ≡ set (get_or ds to x).inbox from (get_or (get_or ds to x).inbox from [] ++ copied ∷ []) →
     (logs_of (set ds to d) ≡ logs_of ds) × (inboxes_of (set ds to d) ≡ set (inboxes_of ds) to (set (inbox_at ds to) from (get_or (inbox_at ds to) from [] ++ copied ∷ [])))
@@ -30,7 +30,7 @@ received ds from to copied x d within log inbox = (
   field_set (λ desk. desk.inbox) ds to x d [] (λ waits. set waits from (get_or waits from [] ++ copied ∷ [])) within inbox,
 )
 
--- a put that is noted
+-- a put is appended to a log
 pub noted : (ds : List Desk) (from to : ℕ) (letters : List Letter) (x d : Desk) → from < length ds → d.log ≡ (get_or ds from x).log ++ Put to letters ∷ [] →
     d.inbox ≡ (get_or ds from x).inbox →
     (logs_of (set ds from d) ≡ set (logs_of ds) from (get_or (logs_of ds) from [] ++ Put to letters ∷ [])) × (inboxes_of (set ds from d) ≡ inboxes_of ds)
@@ -46,7 +46,7 @@ module _ (from to : ℕ) (letters copied : List Letter) where
   abbrev with_batch : List (List (List (List Letter))) → List (List (List (List Letter)))
   with_batch inboxes = set inboxes to (set (get_or inboxes to []) from (get_or (get_or inboxes to []) from [] ++ copied ∷ []))
 
-  -- room made, a batch let wait, and its put noted
+  -- memory is reserved, a batch goes into an inbox, and its put is appended
   pub put_between : (a b c d : List Desk) → SameDesks a b → (logs_of c ≡ logs_of b) × (inboxes_of c ≡ with_batch (inboxes_of b)) →
       (logs_of d ≡ with_put (logs_of c)) × (inboxes_of d ≡ inboxes_of c) → PutBetween from to letters copied a d
   put_between a b c d made waits noted = record {

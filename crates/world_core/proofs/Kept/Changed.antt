@@ -33,7 +33,7 @@ gave links place x now (Some batch) within batches carried =
       carried = field_kept (λ k. k.carried) links place x now within carried;
     }
 
--- counts in which one has one more, by equal lists
+-- the same, of equal lists
 pub counted_as : (rank : ℕ) (before old new after : List ℕ) → Counted rank old new → old ≡ before → after ≡ new → Counted rank before after
 counted_as rank before old new after counted is now =
     let P : List ℕ → Type 0 = λ counts. Counted rank counts new in

@@ -1,4 +1,4 @@
--- Two ranks, and one that stands between them.
+-- Two ranks, and one between them.
 use Rattle.std.proofs.Common.{◌≡◌, ◌≢◌, ℕ, ◌<◌, true, not, nat_eq, ltb-true, eq-eqb}
 use Rattle.ygm_route.specs.declared.scheme.Scheme.{Scheme}
 use Rattle.ygm_route.specs.Layout.{Shape}

@@ -1,4 +1,4 @@
--- The first letter that a rank has to forward.
+-- What a rank has to forward, and its first letter.
 use Rattle.std.proofs.Common.{◌≡◌, ◌≢◌, ℕ, Bool, true, false, not, nat_eq, List, [], ◌∷◌, ◌++◌, length, drop, refl, eq-eqb, ne_eqb, if◌then◌else◌, ◌≤◌, ◌&&◌, sym, ap, ◌∙◌, subst, append_assoc, arith, length-append, zero, suc, ◌+◌, nat_lt, Some, slice_get}
 use Rattle.msg_codec.specs.declared.letter.Letter.{Letter}
 use Rattle.world_core.specs.Local.{Local, is_rank, having_put, to_forward}
@@ -25,7 +25,7 @@ pub forwarding : (me : Local) (s d : ℕ) (l : Letter) → is_first_of (to_forwa
 unfolding to_forward
 forwarding me s d l h = let both = first_if _ _ l h in (not_equal _ _ (and_second _ _ both.0), both.1)
 
--- a list that goes on with a letter
+-- what a rank put, with the next letter of a longer list
 pub goes_on : (put rest : List Letter) (l : Letter) → is_first_of rest l ≡ true → IsPrefix (put ++ l ∷ []) (put ++ rest)
 goes_on put [] l h = absurd cc
 goes_on put (f ∷ more) l h = record { rest = more; joined = append_assoc put (l ∷ []) more ∙ ap (λ x. put ++ x ∷ more) (sym (same_letter-is f l h)) }
@@ -81,7 +81,7 @@ module _ (me : Local) (to : ℕ) (before : List Letter) (s d n : ℕ) (count : n
       either true = ap (λ xs. is_first_of xs l) same_rest ∙ none_first (pair_taken s d me.log) n l few
       either false = refl
 
--- what comes for the rank itself isn't forwarded
+-- a letter for the rank itself isn't forwarded
 pub not_own : (me : Local) (s d : ℕ) (l : Letter) → d ≡ me.here → is_first_of (to_forward me s d) l ≡ false
 unfolding to_forward
 not_own me s d l e =

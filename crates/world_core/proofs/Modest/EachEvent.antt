@@ -41,7 +41,7 @@ each_log world rank entry P within old new r = elim (cases_eq r rank) [
   | inr other ↦ rw (get_or-set_other world.logs rank r (log_of world rank ++ entry ∷ []) [] other) (old r)
 ]
 
--- the rest of what a world needs
+-- the other facts that a world needs
 gained : (world : Logs) (rank : ℕ) (entry : Entry) → Base world → rank < world.layout.ranks → LinksAgree (gaining world rank entry) →
     ((to : ℕ) (letters : List Letter) → entry ≡ Put to letters → first_broken (local world rank) (Puts to letters) ≡ None) → Base (gaining world rank entry)
 gained world rank entry base within agree ok = record {

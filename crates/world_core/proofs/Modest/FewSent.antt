@@ -26,7 +26,7 @@ use Rattle.list_facts.proofs.Prefix.{prefix_length, prefix_trans}
 use Rattle.world_core.proofs.Sound.OnPath.{alone, carried_put}
 use Rattle.world_core.proofs.Log.ByLink.{all_put}
 
--- a rank that stands between two others
+-- a rank between two others
 record Between (layout : Shape) (scheme : Scheme) (s d r : ℕ) : Type 0 where
   pub third : IsThird layout s d r
   pub passed : IsTrue (passes (path layout scheme s d) r)
@@ -69,7 +69,7 @@ module _ (world : Logs) (w : IsWorld world) where
   few_of_sender : (s d : ℕ) → length (pair_put s d (log_of world s)) ≤ most_letters
   few_of_sender s d = le_trans (pair_of_sender s d (letters_put (log_of world s))) (few_own s)
 
-  -- a rank that puts another rank's letter stands between
+  -- a rank that puts a letter of another rank is between its ends
   stands : (s d r b : ℕ) → s ≢ r → (l : Letter) → IsCarried world.layout world.scheme r b l → is_of_pair s d l ≡ true → Between world.layout world.scheme s d r
   stands s d r b other l c h =
       let ranks : AreRanks world.layout l.from l.to = record { laid_out = w.sound.laid_out; from_within = c.lawful.from_within; to_within = c.lawful.to_within } in

@@ -79,7 +79,7 @@ module _ (world : Logs) (base : Base world) where
       all_weaker (IsSent layout scheme k j) (λ l. is_of_pair s d l ≡ false) _
       (λ l c. false_from_ne_true (is_of_pair s d l) (λ h. other (sym (subst P (pair_of s d l h).1 c.next)))) ((alone k).carry j)
 
-  -- who isn't a rank puts nothing
+  -- what is no rank puts nothing
   no_rank : (s d k j : ℕ) → layout.ranks ≤ k → None_of s d (letters_of (batches_put j (log_of world k)))
   no_rank s d k j past = all_weaker (IsSent layout scheme k j) (λ l. is_of_pair s d l ≡ false) _ (λ l c. absurd (omega (arith, c.here_within))) ((alone k).carry j)
 
@@ -95,7 +95,7 @@ module _ (world : Logs) (base : Base world) where
       let next : P j = subst P e (link_end layout scheme s d k _ ranks (crosses_hop layout scheme s d k ranks on other)) in
       absurd cc)
 
-  -- and has one hop more to go
+  -- and has one more hop to go
   farther : (d k j : ℕ) → AreRanks layout k d → j ≢ d → hop layout scheme k d ≡ j → length (path layout scheme k d) ≡ length (path layout scheme j d) + 1
   farther d k j ranks other e =
       let P : ℕ → Type 0 = λ x. length (path layout scheme k d) ≡ length (k ∷ path layout scheme x d) in
@@ -103,7 +103,7 @@ module _ (world : Logs) (base : Base world) where
       omega (arith, more)
 
   -- A rank off the path puts no letter of the pair: it would have it from a rank that is off the path too and has
-  -- one hop more to go, and paths are short. `n` counts how many hops more there may be.
+  -- one more hop to go, and paths are short. `n` is how many more hops there may be.
   pub off_path : (s d : ℕ) → AreRanks layout s d → (n j : ℕ) → j < layout.ranks → passes (path layout scheme s d) j ≡ false →
       most_links scheme + 2 ≤ n + length (path layout scheme j d) → None_of s d (letters_put (log_of world j))
   off_path s d ranks zero j within off far = absurd (let short = path_short layout j d ranks.laid_out within ranks.to_within scheme in omega (arith, short, far))
