@@ -6,7 +6,7 @@ use Rattle.std.proofs.lemmas.Slice.Eq.{bytes_eq-Decides}
 use Rattle.std.specs.Str.{bytes_eq}
 use Rattle.std.specs.Option.{option_map}
 use Rattle.std.specs.List.{find}
-use Rattle.ygm_io.specs.Named.{last_named}
+use Rattle.ygm_io.specs.ByName.{last_named}
 
 module _ {T : Type 0} (added : List (List ℕ × T)) (name : List ℕ) (value : T) where
   first_tested : (other : List ℕ) → last_named other (added ++ (name, value) ∷ []) ≡ option_map (λ entry. entry.1) (cond (bytes_eq name other) (Some (name, value)) (find (λ entry. bytes_eq entry.0 other) (reverse added)))

@@ -3,19 +3,19 @@ use Rattle.std.proofs.Common.{◌≡◌, ℕ, ◌+◌, ◌-◌, List, ◌++◌, 
 use Rattle.std.proofs.lemmas.List.{take_all}
 use Rattle.std.proofs.Math.Seq.{take-add}
 use Rattle.std.specs.Option.{option_map}
-use Rattle.ygm_io.specs.Content.{Told, AppendedTo}
+use Rattle.ygm_io.specs.Content.{ExposedBytes, AppendedTo}
 
-regrouped : (xs ys : List ℕ) (before : Told) → option_map (λ held. held ++ ys) (option_map (λ held. held ++ xs) before) ≡ option_map (λ held. held ++ (xs ++ ys)) before
+regrouped : (xs ys : List ℕ) (before : ExposedBytes) → option_map (λ held. held ++ ys) (option_map (λ held. held ++ xs) before) ≡ option_map (λ held. held ++ (xs ++ ys)) before
 regrouped xs ys None = refl
 regrouped xs ys (Some held) = ap Some (append_assoc held xs ys)
 
 -- one piece, and then another
-pub appended_twice : (xs ys : List ℕ) (before between now : Told) → AppendedTo xs before between → AppendedTo ys between now → AppendedTo (xs ++ ys) before now
+pub appended_twice : (xs ys : List ℕ) (before between now : ExposedBytes) → AppendedTo xs before between → AppendedTo ys between now → AppendedTo (xs ++ ys) before now
 appended_twice xs ys before between now first then =
-    then ∙ ap (λ (told : Told). option_map (λ held. held ++ ys) told) first ∙ regrouped xs ys before
+    then ∙ ap (λ (told : ExposedBytes). option_map (λ held. held ++ ys) told) first ∙ regrouped xs ys before
 
 -- the first bytes, and then the next of those that are left
-pub appended_more : (bytes : List ℕ) (written count : ℕ) (before between now : Told) → AppendedTo (take written bytes) before between → AppendedTo (take count (take (length bytes - written) (drop written bytes))) between now → AppendedTo (take (written + count) bytes) before now
+pub appended_more : (bytes : List ℕ) (written count : ℕ) (before between now : ExposedBytes) → AppendedTo (take written bytes) before between → AppendedTo (take count (take (length bytes - written) (drop written bytes))) between now → AppendedTo (take (written + count) bytes) before now
 appended_more bytes written count before between now first then =
     let left : take (length bytes - written) (drop written bytes) ≡ drop written bytes = take_all _ _ (omega (arith, length-drop written bytes)) in
     rw (take-add written count bytes) (appended_twice _ _ before between now first (rw left at then))

@@ -1,7 +1,7 @@
 //! Files that never fail to open.
 ghost use Rattle.std.specs.Prelude.{◌≡◌, ◌≢◌, [], List, ℕ, Some, OnOk, OnErr};
 ghost use Rattle.std.specs.Option.{option_map_or};
-ghost use Rattle.ygm_io.specs.Named.{last_named};
+ghost use Rattle.ygm_io.specs.ByName.{last_named};
 
 use crate::named::{Named, add_named, find_named};
 use crate::{CalmSource, Files, OpenFailed};
