@@ -26,8 +26,8 @@ impl From<AllocError> for OpenFailed {
     }
 }
 
-/// What sources are opened from, by name. An open changes nothing of what the names hold, so that the
-/// same name may be opened again.
+/// What sources are opened from, by name. An open doesn't change what the names hold, so the same name
+/// may be opened again.
 pub trait Files {
     type Src: Source + Send + Drop;
 

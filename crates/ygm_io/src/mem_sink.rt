@@ -69,6 +69,7 @@ impl Sink for MemSink {
         ensures failed { OnErr result (MemoryWriteFailed bytes.now self.old self.new) }
         ensures at_listed_calls { NextFails self.old.plan → IsErr result }
         ensures never_falls { self.old.plan.faults ≤ self.new.plan.faults }
+        ensures takes_some { 1 ≤ self.new.most }
     {
         let count = bytes.len().min(self.most);
         if self.plan.next_fails() || self.held.extend_from_slice(&bytes[..count]).is_err() {

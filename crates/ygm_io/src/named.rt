@@ -6,7 +6,7 @@ ghost use Rattle.ygm_io.specs.ByName.{last_named};
 use std::alloc::{AllocError, Global};
 use std::marker::Model;
 
-/// A value, and the name that it lies under.
+/// A value and its name.
 #[derive(Debug, Drop)]
 pub struct Named<T> {
     name: String,

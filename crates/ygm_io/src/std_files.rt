@@ -4,6 +4,7 @@ ghost use Rattle.rising_counts.specs.Rising.{Rose, next_count};
 ghost use Rattle.ygm_io.specs.Opens.{FileOpened};
 ghost use Rattle.ygm_io.specs.declared.files.OpenFailed.{OpenFailed};
 
+use crate::tries::MOST_TRIES;
 use crate::{Files, OpenFailed, StdSource};
 use rising_counts::one_more;
 use std::fs;
@@ -53,7 +54,7 @@ where
         ensures never_falls { self.old.faults ≤ self.new.faults }
         ensures counted_fault { IsErrOf result OpenFailed.Failed → self.new.faults ≡ next_count self.old.faults }
     {
-        for _ in 0..u64::MAX {
+        for _ in 0..MOST_TRIES {
             match fs::open(&self.runtime, name) {
                 Ok(file) => return Ok(StdSource::new(file)),
                 Err(error) => match error.kind() {

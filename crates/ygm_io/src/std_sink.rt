@@ -5,6 +5,7 @@ ghost use Rattle.rising_counts.specs.Rising.{next_count};
 ghost use Rattle.ygm_io.specs.Content.{CallFailed};
 ghost use Rattle.ygm_io.specs.Writes.{PieceWritten};
 
+use crate::tries::MOST_TRIES;
 use crate::{Failed, Sink};
 use rising_counts::one_more;
 use std::io::{ErrorKind, Write};
@@ -44,7 +45,7 @@ impl<W: Write> Sink for StdSink<W> {
 
     /// One write of the writer. A write that a signal interrupts is tried again, and one that takes no
     /// byte of a piece that isn't empty is a fault.
-    #[tactic(auto, using(crate::proofs::Passing::keeps_on, crate::proofs::Passing::appends_on, crate::proofs::Passing::appends_nothing))]
+    #[tactic(auto, using(crate::proofs::KnownBytes::AfterKept::keeps_on, crate::proofs::KnownBytes::AfterKept::appends_on, crate::proofs::KnownBytes::AfterKept::appends_nothing))]
     fn write(&mut self, bytes: &[u8]) -> Result<usize, Failed>
         ensures took { IfOk result (λ count. PieceWritten count bytes.now None None self.old.faults self.new.faults) }
         ensures failed { OnErr result (CallFailed None None self.old.faults self.new.faults) }
@@ -53,7 +54,7 @@ impl<W: Write> Sink for StdSink<W> {
         // where the writer's bytes are known, they are passed on
         ensures passed_on { WriteAppends (W.contents self.old.writer) (W.contents self.new.writer) result bytes.now }
     {
-        for _ in 0..u64::MAX {
+        for _ in 0..MOST_TRIES {
             match self.writer.write(bytes) {
                 Ok(count) if count > 0 || bytes.is_empty() => return Ok(count),
                 Err(error) if error.kind() == ErrorKind::Interrupted => {}

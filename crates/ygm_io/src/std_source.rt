@@ -5,6 +5,7 @@ ghost use Rattle.rising_counts.specs.Rising.{next_count};
 ghost use Rattle.ygm_io.specs.Content.{CallFailed};
 ghost use Rattle.ygm_io.specs.Reads.{PieceRead};
 
+use crate::tries::MOST_TRIES;
 use crate::{Failed, Source};
 use rising_counts::one_more;
 use std::io::{ErrorKind, Read};
@@ -40,7 +41,7 @@ impl<R: Read> Source for StdSource<R> {
     ghost faults = { λ source. source.faults };
 
     /// One read of the reader. A read that a signal interrupts is tried again.
-    #[tactic(auto, using(crate::proofs::Passing::keeps_on, crate::proofs::Passing::consumes_on))]
+    #[tactic(auto, using(crate::proofs::KnownBytes::AfterKept::keeps_on, crate::proofs::KnownBytes::AfterKept::consumes_on))]
     fn read(&mut self, into: &mut [u8]) -> Result<usize, Failed>
         ensures took { IfOk result (λ count. PieceRead count into.old into.new None None self.old.faults self.new.faults) }
         ensures failed { OnErr result (CallFailed None None self.old.faults self.new.faults) }
@@ -49,7 +50,7 @@ impl<R: Read> Source for StdSource<R> {
         // where the reader's bytes are known, they are passed on
         ensures passed_on { ReadConsumes (R.remaining self.old.reader) (R.remaining self.new.reader) result into.new }
     {
-        for _ in 0..u64::MAX {
+        for _ in 0..MOST_TRIES {
             match self.reader.read(into) {
                 Ok(count) => return Ok(count),
                 Err(error) if error.kind() == ErrorKind::Interrupted => {}

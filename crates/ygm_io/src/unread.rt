@@ -5,7 +5,7 @@ ghost use Rattle.ygm_io.specs.Memory.{Moved};
 use std::alloc::{AllocError, Global};
 use std::marker::Model;
 
-/// Bytes that lie in memory, and how many of them were read.
+/// Bytes in memory, and how many of them were read.
 #[derive(Debug, Drop)]
 pub struct Unread {
     bytes: Vec<u8>,

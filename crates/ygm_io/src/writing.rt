@@ -17,7 +17,8 @@ pub struct WriteFault {
 ///
 /// After a `WriteFault` the sink holds the first `written` bytes after what it held before.
 pub fn write_all<K: Sink>(sink: &mut K, bytes: &[u8]) -> Result<(), WriteFault>
-    ensures done { OnOk result (AllWritten bytes.now (K.holds sink.old) (K.holds sink.new) (K.faults sink.old) (K.faults sink.new)) }
+    ensures done { OnOk result (
+        AllWritten bytes.now (K.holds sink.old) (K.holds sink.new) (K.faults sink.old) (K.faults sink.new)) }
     ensures cut_off { IfErr result (λ fault.
         PrefixWritten fault.written bytes.now (K.holds sink.old) (K.holds sink.new) (K.faults sink.old) (K.faults sink.new)) }
     ensures never_falls { K.faults sink.old ≤ K.faults sink.new }

@@ -1,5 +1,5 @@
 use Rattle.std.proofs.Common.{◌∙◌, arith}
-use Rattle.ygm_io.proofs.Appending.{appended_more}
+use Rattle.ygm_io.proofs.Content.AppendedInTurn.{appended_more}
 use Rattle.ygm_io.proofs.writing.write_all.Goals as goal
 
 pub loop-written-preserved : goal.loop-written-preserved
