@@ -1,3 +1,3 @@
-mod Adding
-mod Appending
-mod Passing
+mod ByName
+mod Content
+mod KnownBytes

@@ -1,19 +1,25 @@
--- What a source has left and what a sink holds: the bytes, where it tells them.
+-- The bytes of a source or a sink, where it exposes them to contracts.
 use Rattle.std.specs.Prelude.{◌≡◌, ℕ, List, [], ◌++◌, Option, IfSome}
 use Rattle.std.specs.Option.{option_map}
+use Rattle.rising_counts.specs.Rising.{Rose}
 
--- bytes that an object tells, or that it doesn't tell
-abbrev pub Told : Type 0
-Told = Option (List ℕ)
+-- the bytes that an object exposes, or none where it exposes nothing
+abbrev pub ExposedBytes : Type 0
+ExposedBytes = Option (List ℕ)
 
--- the first bytes of what was left before are gone
-abbrev pub TakenFrom : List ℕ → Told → Told → Type 0
+-- these bytes were taken from what remained: they were its prefix
+abbrev pub TakenFrom : List ℕ → ExposedBytes → ExposedBytes → Type 0
 TakenFrom bytes before now = before ≡ option_map (λ rest. bytes ++ rest) now
 
--- the bytes were put behind what was held before
-abbrev pub AppendedTo : List ℕ → Told → Told → Type 0
+-- these bytes were appended to what was held
+abbrev pub AppendedTo : List ℕ → ExposedBytes → ExposedBytes → Type 0
 AppendedTo bytes before now = now ≡ option_map (λ held. held ++ bytes) before
 
--- where it tells, nothing is left
-abbrev pub NothingLeft : Told → Type 0
+-- nothing remains, where it is exposed
+abbrev pub NothingLeft : ExposedBytes → Type 0
 NothingLeft left = IfSome left (λ rest. rest ≡ [])
+
+-- A read or a write failed: the count of faults rose, and the bytes are unchanged.
+pub record CallFailed (bytes bytes_now : ExposedBytes) (faults faults_now : ℕ) : Type 0 where
+  pub cause : Rose faults faults_now
+  pub unchanged : bytes_now ≡ bytes

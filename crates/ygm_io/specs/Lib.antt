@@ -1,4 +1,8 @@
+pub mod ByName
 pub mod Content
-pub use Rattle.rising_counts.specs.Rising
-pub mod Named
+pub mod Memory
+pub mod Opens
 pub mod Plan
+pub mod Reads
+pub use Rattle.rising_counts.specs.Rising
+pub mod Writes

@@ -1,7 +1,7 @@
 //! Files that never fail to open.
 ghost use Rattle.std.specs.Prelude.{◌≡◌, ◌≢◌, [], List, ℕ, Some, OnOk, OnErr};
 ghost use Rattle.std.specs.Option.{option_map_or};
-ghost use Rattle.ygm_io.specs.Named.{last_named};
+ghost use Rattle.ygm_io.specs.ByName.{last_named};
 
 use crate::named::{Named, add_named, find_named};
 use crate::{CalmSource, Files, OpenFailed};
@@ -26,7 +26,7 @@ impl CalmFiles {
     }
 
     /// Adds a file with a copy of `bytes`. Of files of one name the one that was added last is opened.
-    #[tactic(auto, using(crate::proofs::Adding::last_same, crate::proofs::Adding::last_other))]
+    #[tactic(auto, using(crate::proofs::ByName::LastAdded::last_same, crate::proofs::ByName::LastAdded::last_other))]
     pub fn add(&mut self, name: &str, bytes: &[u8]) -> Result<(), AllocError>
         ensures added { OnOk result
             (option_map_or (λ held. held.items) (last_named name.now self.new.files.items) [] ≡ bytes.now) }

@@ -1,6 +1,8 @@
 //! A source that never fails.
-ghost use Rattle.std.specs.Prelude.{◌≡◌, ◌<◌, ◌≤◌, length, take, drop, min, Some, IfOk, OnErr};
-ghost use Rattle.ygm_io.specs.Content.{TakenFrom, NothingLeft};
+ghost use Rattle.std.specs.Prelude.{◌≡◌, ◌<◌, length, Some, IfOk, OnErr};
+ghost use Rattle.ygm_io.specs.Content.{NothingLeft};
+ghost use Rattle.ygm_io.specs.Memory.{Moved};
+ghost use Rattle.ygm_io.specs.Reads.{PieceRead};
 
 use crate::unread::Unread;
 use crate::{Failed, Source};
@@ -22,7 +24,7 @@ impl CalmSource {
         })
     }
 
-    /// The bytes that are left.
+    /// The bytes that remain.
     pub fn left(&self) -> &[u8]
         ensures { result.now ≡ self.now.left }
     {
@@ -35,16 +37,13 @@ impl Source for CalmSource {
 
     ghost faults = { λ _. 0 };
 
-    /// Reads as many bytes as are left and fit.
+    /// Reads as many bytes as remain and fit.
     fn read(&mut self, into: &mut [u8]) -> Result<usize, Failed>
-        ensures within { IfOk result (λ count. count ≤ length into.old) }
-        ensures taken { IfOk result (λ count.
-            TakenFrom (take count into.new) (Some self.old.left) (Some self.new.left)) }
+        ensures took { IfOk result (λ count. PieceRead count into.old into.new (Some self.old.left) (Some self.new.left) 0 0) }
+        ensures moved { IfOk result (λ count. Moved count into.old into.new self.old.left self.new.left) }
         ensures end { IfOk result (λ count.
             count ≡ 0 → 0 < length into.old → NothingLeft (Some self.old.left)) }
         ensures never_fails { OnErr result ⊥ }
-        ensures as_many_as_fit { IfOk result (λ count. count ≡ min (length into.old) (length self.old.left)) }
-        ensures behind { IfOk result (λ count. drop count into.new ≡ drop count into.old) }
     {
         Ok(self.left.move_into(into))
     }

@@ -1,6 +1,7 @@
 //! What sources are opened from, by name.
-ghost use Rattle.std.specs.Prelude.{◌≡◌, ◌≤◌, List, ℕ, Option, IfOk, OnOk, IsErrOf};
+ghost use Rattle.std.specs.Prelude.{◌≡◌, ◌≤◌, List, ℕ, Option, IfOk, IsErrOf};
 ghost use Rattle.rising_counts.specs.Rising.{Rose};
+ghost use Rattle.ygm_io.specs.Opens.{FileOpened};
 ghost use Rattle.ygm_io.specs.declared.files.OpenFailed.TheVariants.{NoMemory};
 
 use crate::Source;
@@ -25,12 +26,12 @@ impl From<AllocError> for OpenFailed {
     }
 }
 
-/// What sources are opened from, by name. An open changes nothing of what the names hold, so that the
-/// same name may be opened again.
+/// What sources are opened from, by name. An open doesn't change what the names hold, so the same name
+/// may be opened again.
 pub trait Files {
     type Src: Source + Send + Drop;
 
-    /// The bytes that a name holds, where the files tell them.
+    /// The bytes that a name holds, where the files expose them.
     ghost content: { Self → List ℕ → Option (List ℕ) };
 
     /// How often an open has failed, a count that never falls.
@@ -38,11 +39,10 @@ pub trait Files {
 
     /// Opens the source that the name stands for.
     fn open_named(&mut self, name: &str) -> Result<Self::Src, OpenFailed>
-        ensures bytes { IfOk result (λ src. Self.Src.left src ≡ content self.old name.now) }
-        ensures fresh { IfOk result (λ src. Self.Src.faults src ≡ 0) }
-        ensures same { (other : List ℕ) → content self.new other ≡ content self.old other }
-        ensures stands { OnOk result (faults self.new ≡ faults self.old) }
-        ensures stands_without_memory { IsErrOf result OpenFailed.NoMemory → faults self.new ≡ faults self.old }
+        ensures opened { IfOk result (λ src.
+            FileOpened (Self.Src.left src) (Self.Src.faults src) (content self.old name.now) (faults self.old) (faults self.new)) }
         ensures cause { IsErrOf result OpenFailed.Failed → Rose (faults self.old) (faults self.new) }
+        ensures stands_without_memory { IsErrOf result OpenFailed.NoMemory → faults self.new ≡ faults self.old }
+        ensures same { (other : List ℕ) → content self.new other ≡ content self.old other }
         ensures never_falls { faults self.old ≤ faults self.new };
 }

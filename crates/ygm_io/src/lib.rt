@@ -1,5 +1,5 @@
-//! Where bytes come from and where they go: sources, sinks and files, with the kinds that lie in
-//! memory, those that never fail, and those over the real system.
+//! Where bytes come from and where they go: sources, sinks and files. There are kinds in memory, kinds
+//! that never fail, and kinds over the real system.
 #![tactic(auto)]
 
 mod calm_files;
@@ -16,6 +16,7 @@ mod source;
 mod std_files;
 mod std_sink;
 mod std_source;
+mod tries;
 mod unread;
 mod writing;
 

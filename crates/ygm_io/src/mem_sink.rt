@@ -1,29 +1,37 @@
 //! A sink in memory.
-ghost use Rattle.std.specs.Prelude.{◌≡◌, ◌<◌, ◌≤◌, ◌⊎◌, ◌+◌, [], length, take, min, Some, IsErr, IfOk, OnOk, OnErr, vec_len, vec_capacity};
-ghost use Rattle.ygm_io.specs.Content.{AppendedTo};
-ghost use Rattle.rising_counts.specs.Rising.{Rose};
-ghost use Rattle.ygm_io.specs.Plan.{fresh_plan, after_call, after_fault, NextFails};
+ghost use Rattle.std.specs.Prelude.{◌≡◌, ◌≤◌, [], Some, IsErr, IfOk, OnErr, vec_capacity};
+ghost use Rattle.ygm_io.specs.Memory.{MemoryWriteFailed, MemoryWritten, SinkInMemory};
+ghost use Rattle.ygm_io.specs.Plan.{fresh_plan, NextFails};
 
 use crate::plan::FaultPlan;
 use crate::{Failed, Sink};
 use std::alloc::{AllocError, Global};
+use std::marker::Model;
 
-/// A sink in memory, for tests: it tells its bytes, fails at the calls that it was given, and takes
+/// A sink in memory, for tests: it exposes its bytes, fails at the calls that it was given, and takes
 /// only so many bytes at once.
 #[derive(Debug, Drop)]
 pub struct MemSink {
     held: Vec<u8>,
     plan: FaultPlan,
     most: usize,
-    ghost takes_some: { 1 ≤ most },
+}
+
+impl Model for MemSink {
+    ghost Value = { SinkInMemory };
+
+    ghost view = { λ sink.
+        record { held = sink.held.items; capacity = vec_capacity sink.held; most = sink.most; plan = sink.plan } };
+
+    ghost invariant = { λ sink. 1 ≤ sink.most };
 }
 
 impl MemSink {
-    /// An empty sink. The writes whose numbers stand in `fails` fail; they are counted from 0. One
+    /// An empty sink. The writes whose numbers are in `fails` fail; writes are counted from 0. One
     /// write takes at most `most` bytes.
     pub fn new(alloc: Global, fails: &[u64], most: usize) -> Result<MemSink, AllocError>
         requires { 1 ≤ most }
-        ensures empty { IfOk result (λ sink. sink.held.items ≡ []) }
+        ensures empty { IfOk result (λ sink. sink.held ≡ []) }
         ensures plan { IfOk result (λ sink. sink.plan ≡ fresh_plan fails.now) }
         ensures most { IfOk result (λ sink. sink.most ≡ most) }
     {
@@ -36,7 +44,7 @@ impl MemSink {
 
     /// The bytes that were written.
     pub fn bytes(&self) -> &[u8]
-        ensures { result.now ≡ self.now.held.items }
+        ensures { result.now ≡ self.now.held }
     {
         &self.held
     }
@@ -50,29 +58,18 @@ impl MemSink {
 }
 
 impl Sink for MemSink {
-    ghost holds = { λ sink. Some sink.held.items };
+    ghost holds = { λ sink. Some sink.held };
 
     ghost faults = { λ sink. sink.plan.faults };
 
     /// Writes as many bytes as one call takes. It fails at the calls that it was given, and where it
-    /// has to grow and memory is refused.
+    /// has to take memory and that is refused.
     fn write(&mut self, bytes: &[u8]) -> Result<usize, Failed>
-        ensures within { IfOk result (λ count. count ≤ length bytes.now) }
-        ensures progress { IfOk result (λ count. 0 < length bytes.now → 0 < count) }
-        ensures appended { IfOk result (λ count.
-            AppendedTo (take count bytes.now) (Some self.old.held.items) (Some self.new.held.items)) }
-        ensures stands { OnOk result (self.new.plan.faults ≡ self.old.plan.faults) }
-        ensures cause { OnErr result (Rose self.old.plan.faults self.new.plan.faults) }
-        ensures unchanged { OnErr result (self.new.held.items ≡ self.old.held.items) }
-        ensures never_falls { self.old.plan.faults ≤ self.new.plan.faults }
+        ensures took { IfOk result (λ count. MemoryWritten count bytes.now self.old self.new) }
+        ensures failed { OnErr result (MemoryWriteFailed bytes.now self.old self.new) }
         ensures at_listed_calls { NextFails self.old.plan → IsErr result }
-        ensures nowhere_else { OnErr result (NextFails self.old.plan
-            ⊎ (vec_capacity self.old.held < vec_len self.old.held + min (length bytes.now) self.old.most)) }
-        ensures as_many_as_one_call_takes { IfOk result (λ count.
-            count ≡ min (length bytes.now) self.old.most) }
-        ensures counted { OnOk result (self.new.plan ≡ after_call self.old.plan) }
-        ensures counted_fault { OnErr result (self.new.plan ≡ after_fault self.old.plan) }
-        ensures same_most { self.new.most ≡ self.old.most }
+        ensures never_falls { self.old.plan.faults ≤ self.new.plan.faults }
+        ensures takes_some { 1 ≤ self.new.most }
     {
         let count = bytes.len().min(self.most);
         if self.plan.next_fails() || self.held.extend_from_slice(&bytes[..count]).is_err() {

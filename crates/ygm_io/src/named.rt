@@ -1,12 +1,12 @@
 //! Values under names.
 ghost use Rattle.std.specs.Prelude.{◌≡◌, ◌++◌, [], ◌∷◌, List, ℕ, OnOk, OnErr, bytes_eq, string_bytes};
 ghost use Rattle.std.specs.Option.{option_copied};
-ghost use Rattle.ygm_io.specs.Named.{last_named};
+ghost use Rattle.ygm_io.specs.ByName.{last_named};
 
 use std::alloc::{AllocError, Global};
 use std::marker::Model;
 
-/// A value, and the name that it lies under.
+/// A value and its name.
 #[derive(Debug, Drop)]
 pub struct Named<T> {
     name: String,

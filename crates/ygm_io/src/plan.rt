@@ -7,7 +7,7 @@ use std::alloc::{AllocError, Global};
 use std::marker::Model;
 
 /// The numbers of the calls that are to fail, counted from 0, with the counts of calls and faults.
-/// Both counts stand still at `u64::MAX`.
+/// Both counts stay at `u64::MAX` once they are there.
 #[derive(Debug, Drop)]
 pub struct FaultPlan {
     fails: Vec<u64>,

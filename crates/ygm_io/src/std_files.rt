@@ -1,15 +1,17 @@
 //! The files of the system.
-ghost use Rattle.std.specs.Prelude.{◌≡◌, ◌≤◌, None, IfOk, IsErrOf, OnOk};
+ghost use Rattle.std.specs.Prelude.{◌≡◌, ◌≤◌, None, IfOk, IsErrOf};
 ghost use Rattle.rising_counts.specs.Rising.{Rose, next_count};
+ghost use Rattle.ygm_io.specs.Opens.{FileOpened};
 ghost use Rattle.ygm_io.specs.declared.files.OpenFailed.{OpenFailed};
 
+use crate::tries::MOST_TRIES;
 use crate::{Files, OpenFailed, StdSource};
 use rising_counts::one_more;
 use std::fs;
 use std::io::ErrorKind;
 
-/// The files of the system, by their paths. They tell no bytes, and their count of faults stands still
-/// at `u64::MAX`.
+/// The files of the system, by their paths. They expose no bytes, and their count of faults stays at
+/// `u64::MAX` once it is there.
 #[derive(Debug, Drop)]
 pub struct StdFiles<R> {
     runtime: R,
@@ -46,14 +48,13 @@ where
     /// Opens a file for reading. An open that a signal interrupts is tried again, and one to which the
     /// system refuses memory is `NoMemory`.
     fn open_named(&mut self, name: &str) -> Result<StdSource<R::File>, OpenFailed>
-        ensures fresh { IfOk result (λ source. source.faults ≡ 0) }
-        ensures stands { OnOk result (self.new.faults ≡ self.old.faults) }
-        ensures stands_without_memory { IsErrOf result OpenFailed.NoMemory → self.new.faults ≡ self.old.faults }
+        ensures opened { IfOk result (λ source. FileOpened None source.faults None self.old.faults self.new.faults) }
         ensures cause { IsErrOf result OpenFailed.Failed → Rose self.old.faults self.new.faults }
+        ensures stands_without_memory { IsErrOf result OpenFailed.NoMemory → self.new.faults ≡ self.old.faults }
         ensures never_falls { self.old.faults ≤ self.new.faults }
         ensures counted_fault { IsErrOf result OpenFailed.Failed → self.new.faults ≡ next_count self.old.faults }
     {
-        for _ in 0..u64::MAX {
+        for _ in 0..MOST_TRIES {
             match fs::open(&self.runtime, name) {
                 Ok(file) => return Ok(StdSource::new(file)),
                 Err(error) => match error.kind() {

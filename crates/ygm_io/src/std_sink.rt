@@ -1,17 +1,20 @@
 //! A sink over a writer of std.
-ghost use Rattle.std.specs.Prelude.{◌≡◌, ◌<◌, ◌≤◌, length, None, IfOk, OnOk, OnErr};
+ghost use Rattle.std.specs.Prelude.{◌≡◌, ◌≤◌, None, IfOk, OnErr};
 ghost use Rattle.std.specs.Io.KnownBytes.{WriteAppends};
-ghost use Rattle.rising_counts.specs.Rising.{Rose, next_count};
+ghost use Rattle.rising_counts.specs.Rising.{next_count};
+ghost use Rattle.ygm_io.specs.Content.{CallFailed};
+ghost use Rattle.ygm_io.specs.Writes.{PieceWritten};
 
+use crate::tries::MOST_TRIES;
 use crate::{Failed, Sink};
 use rising_counts::one_more;
 use std::io::{ErrorKind, Write};
 
-/// A sink over a writer of std. It tells no bytes, and its count of faults stands still at
-/// `u64::MAX`.
+/// A sink over a writer of std. It exposes no bytes, and its count of faults stays at `u64::MAX` once
+/// it is there.
 ///
-/// The writer has to be one without a buffer: it is never flushed, so bytes that a buffer still holds
-/// would count as written.
+/// The writer must have no buffer: it is never flushed, so bytes that a buffer still holds would count
+/// as written.
 #[derive(Debug, Drop)]
 pub struct StdSink<W> {
     writer: W,
@@ -42,18 +45,16 @@ impl<W: Write> Sink for StdSink<W> {
 
     /// One write of the writer. A write that a signal interrupts is tried again, and one that takes no
     /// byte of a piece that isn't empty is a fault.
-    #[tactic(auto, using(crate::proofs::Passing::keeps_on, crate::proofs::Passing::appends_on, crate::proofs::Passing::appends_nothing))]
+    #[tactic(auto, using(crate::proofs::KnownBytes::AfterKept::keeps_on, crate::proofs::KnownBytes::AfterKept::appends_on, crate::proofs::KnownBytes::AfterKept::appends_nothing))]
     fn write(&mut self, bytes: &[u8]) -> Result<usize, Failed>
-        ensures within { IfOk result (λ count. count ≤ length bytes.now) }
-        ensures progress { IfOk result (λ count. 0 < length bytes.now → 0 < count) }
-        ensures stands { OnOk result (self.new.faults ≡ self.old.faults) }
-        ensures cause { OnErr result (Rose self.old.faults self.new.faults) }
+        ensures took { IfOk result (λ count. PieceWritten count bytes.now None None self.old.faults self.new.faults) }
+        ensures failed { OnErr result (CallFailed None None self.old.faults self.new.faults) }
         ensures never_falls { self.old.faults ≤ self.new.faults }
         ensures counted_fault { OnErr result (self.new.faults ≡ next_count self.old.faults) }
         // where the writer's bytes are known, they are passed on
         ensures passed_on { WriteAppends (W.contents self.old.writer) (W.contents self.new.writer) result bytes.now }
     {
-        for _ in 0..u64::MAX {
+        for _ in 0..MOST_TRIES {
             match self.writer.write(bytes) {
                 Ok(count) if count > 0 || bytes.is_empty() => return Ok(count),
                 Err(error) if error.kind() == ErrorKind::Interrupted => {}

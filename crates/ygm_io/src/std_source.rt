@@ -1,14 +1,17 @@
 //! A source over a reader of std.
-ghost use Rattle.std.specs.Prelude.{◌≡◌, ◌≤◌, length, None, IfOk, OnOk, OnErr};
+ghost use Rattle.std.specs.Prelude.{◌≡◌, ◌≤◌, None, IfOk, OnErr};
 ghost use Rattle.std.specs.Io.KnownBytes.{ReadConsumes};
-ghost use Rattle.rising_counts.specs.Rising.{Rose, next_count};
+ghost use Rattle.rising_counts.specs.Rising.{next_count};
+ghost use Rattle.ygm_io.specs.Content.{CallFailed};
+ghost use Rattle.ygm_io.specs.Reads.{PieceRead};
 
+use crate::tries::MOST_TRIES;
 use crate::{Failed, Source};
 use rising_counts::one_more;
 use std::io::{ErrorKind, Read};
 
-/// A source over a reader of std. It tells no bytes, and its count of faults stands still at
-/// `u64::MAX`.
+/// A source over a reader of std. It exposes no bytes, and its count of faults stays at `u64::MAX`
+/// once it is there.
 #[derive(Debug, Drop)]
 pub struct StdSource<R> {
     reader: R,
@@ -38,17 +41,16 @@ impl<R: Read> Source for StdSource<R> {
     ghost faults = { λ source. source.faults };
 
     /// One read of the reader. A read that a signal interrupts is tried again.
-    #[tactic(auto, using(crate::proofs::Passing::keeps_on, crate::proofs::Passing::consumes_on))]
+    #[tactic(auto, using(crate::proofs::KnownBytes::AfterKept::keeps_on, crate::proofs::KnownBytes::AfterKept::consumes_on))]
     fn read(&mut self, into: &mut [u8]) -> Result<usize, Failed>
-        ensures within { IfOk result (λ count. count ≤ length into.old) }
-        ensures stands { OnOk result (self.new.faults ≡ self.old.faults) }
-        ensures cause { OnErr result (Rose self.old.faults self.new.faults) }
+        ensures took { IfOk result (λ count. PieceRead count into.old into.new None None self.old.faults self.new.faults) }
+        ensures failed { OnErr result (CallFailed None None self.old.faults self.new.faults) }
         ensures never_falls { self.old.faults ≤ self.new.faults }
         ensures counted_fault { OnErr result (self.new.faults ≡ next_count self.old.faults) }
         // where the reader's bytes are known, they are passed on
         ensures passed_on { ReadConsumes (R.remaining self.old.reader) (R.remaining self.new.reader) result into.new }
     {
-        for _ in 0..u64::MAX {
+        for _ in 0..MOST_TRIES {
             match self.reader.read(into) {
                 Ok(count) => return Ok(count),
                 Err(error) if error.kind() == ErrorKind::Interrupted => {}

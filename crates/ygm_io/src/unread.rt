@@ -1,10 +1,11 @@
 //! Bytes that are read from the front.
-ghost use Rattle.std.specs.Prelude.{◌≡◌, ◌≤◌, ◌++◌, List, ℕ, length, take, drop, min, IfOk};
+ghost use Rattle.std.specs.Prelude.{◌≡◌, ◌≤◌, List, ℕ, length, drop, IfOk};
+ghost use Rattle.ygm_io.specs.Memory.{Moved};
 
 use std::alloc::{AllocError, Global};
 use std::marker::Model;
 
-/// Bytes that lie in memory, and how many of them were read.
+/// Bytes in memory, and how many of them were read.
 #[derive(Debug, Drop)]
 pub struct Unread {
     bytes: Vec<u8>,
@@ -35,11 +36,9 @@ impl Unread {
         &self.bytes[self.read..]
     }
 
-    /// Moves as many bytes as fit to the front of `into`, and answers how many.
+    /// Moves as many bytes as fit to the front of `into`, and returns how many.
     pub fn move_into(&mut self, into: &mut [u8]) -> usize
-        ensures count { result ≡ min (length into.old) (length self.old) }
-        ensures moved { into.new ≡ take result self.old ++ drop result into.old }
-        ensures rest { self.new ≡ drop result self.old }
+        ensures { Moved result into.old into.new self.old self.new }
     {
         let count = into.len().min(self.bytes.len() - self.read);
         let end = self.read + count;

@@ -1,7 +1,6 @@
 //! Writing bytes to their end.
-ghost use Rattle.std.specs.Prelude.{◌≡◌, ◌<◌, ◌≤◌, length, take, IfErr, OnOk, OnErr};
-ghost use Rattle.ygm_io.specs.Content.{AppendedTo};
-ghost use Rattle.rising_counts.specs.Rising.{Rose};
+ghost use Rattle.std.specs.Prelude.{◌≤◌, IfErr, OnOk};
+ghost use Rattle.ygm_io.specs.Writes.{AllWritten, PrefixWritten};
 
 use crate::{Failed, Sink};
 use thiserror::Error;
@@ -10,20 +9,18 @@ use thiserror::Error;
 #[derive(Clone, Copy, Debug, PartialEq, Eq, Error)]
 #[error("the write failed after {written} bytes")]
 pub struct WriteFault {
-    /// How many bytes the sink took, from the front.
+    /// How many bytes the sink took: the first ones.
     pub written: usize,
 }
 
-/// Writes all the bytes. Each call of the sink is offered all that is left.
+/// Writes all the bytes. Each call of the sink is offered all that remains.
 ///
-/// After a `WriteFault` the sink holds the first `written` bytes behind what it held before.
+/// After a `WriteFault` the sink holds the first `written` bytes after what it held before.
 pub fn write_all<K: Sink>(sink: &mut K, bytes: &[u8]) -> Result<(), WriteFault>
-    ensures all { OnOk result (AppendedTo bytes.now (K.holds sink.old) (K.holds sink.new)) }
-    ensures stands { OnOk result (K.faults sink.new ≡ K.faults sink.old) }
-    ensures short { IfErr result (λ fault. fault.written < length bytes.now) }
-    ensures front { IfErr result (λ fault.
-        AppendedTo (take fault.written bytes.now) (K.holds sink.old) (K.holds sink.new)) }
-    ensures cause { OnErr result (Rose (K.faults sink.old) (K.faults sink.new)) }
+    ensures done { OnOk result (
+        AllWritten bytes.now (K.holds sink.old) (K.holds sink.new) (K.faults sink.old) (K.faults sink.new)) }
+    ensures cut_off { IfErr result (λ fault.
+        PrefixWritten fault.written bytes.now (K.holds sink.old) (K.holds sink.new) (K.faults sink.old) (K.faults sink.new)) }
     ensures never_falls { K.faults sink.old ≤ K.faults sink.new }
 {
     let mut written = 0;

@@ -2,7 +2,7 @@ use Rattle.std.proofs.Common.{◌≡◌, ◌-◌, ◌≤◌, length, take}
 use Rattle.ygm_io.specs.Content.{AppendedTo}
 use Rattle.ygm_io.proofs.writing.write_all.Given as goal
 
--- the first bytes are behind what was held, and no call has failed
+-- the first bytes were appended to what was held, and no call has failed
 abbrev pub invariant-loop-written : goal.invariant-loop-written
 invariant-loop-written g l = record {
   within : l.written ≤ length l.bytes;

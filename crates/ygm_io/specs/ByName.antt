@@ -1,12 +1,12 @@
--- What lies under a name.
+-- Files under their names, in a list in the order of adding.
 use Rattle.std.specs.Prelude.{ℕ, List, Option, bytes_eq, find, reverse}
 use Rattle.std.specs.Option.{option_map}
 
--- what was added last under this name, in a list in the order of adding
+-- what was added last under this name
 abbrev pub last_named : {T : Type 0} → List ℕ → List (List ℕ × T) → Option T
 last_named name added = option_map (λ entry. entry.1) (find (λ entry. bytes_eq entry.0 name) (reverse added))
 
--- the bytes under a name, and which reads of them are to fail
+-- the bytes of a file, and which reads of them are to fail
 pub record File : Type 0 where
   pub bytes : List ℕ
   pub fails : List ℕ

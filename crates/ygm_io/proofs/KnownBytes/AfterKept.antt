@@ -1,4 +1,4 @@
--- What tries that moved nothing leave of the bytes of a reader or a writer.
+-- What a try does to the bytes of a reader or a writer, after tries that kept them.
 use Rattle.std.proofs.Common.{◌≡◌, ℕ, List, [], ◌++◌, take, Option, None, Some, ◌∙◌, sym, ap}
 use Rattle.std.proofs.lemmas.List.{append-nil}
 use Rattle.std.specs.Io.KnownBytes.{Keeps, Consumes, Appends}
