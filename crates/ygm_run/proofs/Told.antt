@@ -1,13 +1,15 @@
 -- What is to come, where it is told.
-use Rattle.std.proofs.Common.{◌≡◌, ℕ, List, [], ◌∷◌, ◌++◌, Some, None, Ok, Err, refl, ap, subst, ◌∙◌, sym, IfSome, inl, inr}
+use Rattle.std.proofs.Common.{◌≡◌, ◌≤◌, ℕ, List, [], ◌∷◌, ◌++◌, length, Some, None, Ok, refl, ap, subst, ◌∙◌, sym, IfSome, inl, inr}
 use Rattle.std.proofs.lemmas.List.{append_assoc}
 use Rattle.std.specs.Option.{option_map}
 use Rattle.ygm_io.specs.Content.{Told, TakenFrom, NothingLeft}
 use Rattle.ygm_run.specs.Lines.{lines_of, text_of, StartsTooLong}
 use Rattle.ygm_run.specs.Pieces.{StartsWithLine, AreLastLine}
-use Rattle.ygm_run.specs.Turns.{to_come, lines_to_come, FirstTaken, RawLineTaken, IfLine, Answer}
+use Rattle.ygm_io.specs.Rising.{next_count}
+use Rattle.ygm_run.specs.Reading.{Reading}
+use Rattle.ygm_run.specs.Turns.{to_come, lines_to_come, FirstTaken, GaveLine, RawLineTaken, IfLine}
 use Rattle.ygm_run.specs.declared.line_reader.Got.{Got}
-use Rattle.ygm_run.specs.declared.line_reader.Got.TheVariants.{Line, More, End}
+use Rattle.ygm_run.specs.declared.line_reader.Got.TheVariants.{Line}
 use Rattle.ygm_run.proofs.Taken.{line_cut, text_cut}
 
 -- what was read is held
@@ -81,16 +83,18 @@ too_long_to_come held piece before (Some rest) e h =
     subst (λ left. IfSome (to_come held left) StartsTooLong) (sym e)
     (subst StartsTooLong (append_assoc held piece rest) (h rest))
 
--- the line was handed out, and what was held before and now is written otherwise
-pub raw_line_given : (got : Got) (text bytes bytes' held held' : List ℕ) (before now : Told) → got ≡ Line text → bytes' ≡ bytes → held' ≡ held → RawLineTaken text (to_come bytes before) (to_come held now) → IfLine (Ok got) (λ line. RawLineTaken line (to_come bytes' before) (to_come held' now))
-raw_line_given got text bytes bytes' held held' before now e b h line = rw (e, b, h) line
-
--- its text goes with it
-pub text_given : (answer : Answer) (bytes held : List ℕ) (before now : Told) → IfLine answer (λ line. RawLineTaken line (to_come bytes before) (to_come held now)) → IfLine answer (λ line. FirstTaken line (lines_to_come bytes before) (lines_to_come held now))
-text_given (Ok (Line line)) bytes held before now taken = texts_taken line bytes held before now taken
-text_given (Ok More) bytes held before now taken = tt
-text_given (Ok End) bytes held before now taken = tt
-text_given (Err fault) bytes held before now taken = tt
+-- the line was handed out, from bytes that are held
+pub gave_line : {S : Type 0} (left : S → Told) (got : Got) (text bytes held : List ℕ) (old new : Reading) (before now : S) → got ≡ Line text → old.held ≡ bytes → new.held ≡ held
+    → new.given ≡ next_count old.given → length held ≤ 65536 → RawLineTaken text (to_come bytes (left before)) (to_come held (left now)) → IfLine (Ok got) (λ line. GaveLine left line old new before now)
+gave_line left got text bytes held old new before now is was held_is counted bound taken =
+    let raw : RawLineTaken text (to_come old.held (left before)) (to_come new.held (left now)) = rw (was, held_is) taken in
+    subst (λ g. IfLine (Ok g) (λ line. GaveLine left line old new before now)) (sym is)
+    (record {
+      line = texts_taken text old.held new.held (left before) (left now) raw;
+      raw_line = raw;
+      line_counted = counted;
+      line_bound = rw held_is bound;
+    })
 
 -- no line is too long where nothing is to come
 pub none_too_long : (bytes : Told) → bytes ≡ Some [] → IfSome bytes StartsTooLong → ⊥

@@ -1,5 +1,5 @@
--- Lines of a rank's input that were given to the world.
-use Rattle.std.specs.Prelude.{◌≡◌, ℕ, ◌+◌, ◌-◌, ◌*◌, ◌≤◌, ◌^◌, ◌==◌, List, ◌++◌, Option, None, Some, IfSome, length, map, if◌then◌else◌, []}
+-- Only private functions cite this: the lines of a rank's input that were given to the world.
+use Rattle.std.specs.Prelude.{◌≡◌, ℕ, ◌+◌, ◌-◌, ◌*◌, ◌<◌, ◌≤◌, ◌^◌, ◌==◌, true, false, List, ◌++◌, Option, None, Some, IfSome, length, map, slice_index, if◌then◌else◌, []}
 use Rattle.std.specs.List.{AllByRecursion}
 use Rattle.ygm_io.specs.Content.{Told, TakenFrom, NothingLeft}
 use Rattle.ygm_io.specs.Rising.{Rose}
@@ -8,7 +8,7 @@ use Rattle.comm_rank.specs.Rank.{Rank}
 use Rattle.counting_set.specs.Counting.{Counts}
 use Rattle.ygm_run.specs.declared.status.InputFault.{InputFault}
 use Rattle.ygm_run.specs.declared.status.InputFault.TheVariants.{Read, Bad}
-use Rattle.ygm_run.specs.Carried.{Carried}
+use Rattle.ygm_run.specs.Carried.{AreReady, Carried, sent_counts}
 use Rattle.ygm_run.specs.Lines.{max_line, lines_of, raw_lines, text_of, LacksLf, StartsTooLong}
 use Rattle.ygm_run.specs.Reading.{Reading}
 use Rattle.ygm_run.specs.Turns.{PieceBehind, RawLineTaken, to_come}
@@ -51,3 +51,21 @@ pub record IsSent (ranks rank : ℕ) (before after : List (Rank Counts)) (old ne
   pub lines : List (List ℕ)
   pub carried : (own : ℕ → List (List ℕ)) → Carried own ranks before old → Carried (with_lines own rank lines) ranks after new
   pub all : fault ≡ None → IfSome left (λ bytes. lines ≡ lines_of bytes)
+
+-- What a turn of a rank's reader did. Where the reader is done then, all was read or this fault was met.
+pub record TurnFed {S : Type 0} (left : S → Told) (count : S → ℕ) (ranks rank : ℕ) (before after : List (Rank Counts)) (old new : Plain) (reader reader_now : Reading) (source source_now : S) (fault : Option InputFault) : Type 0 where
+  pub ready : AreReady after new
+  pub fed : Fed ranks rank before after old new reader reader_now (left source) (left source_now)
+  pub sent : reader_now.given + slice_index (sent_counts before) rank ≡ reader.given + slice_index (sent_counts after) rank
+  pub bound : slice_index (sent_counts before) rank ≤ 2 ^ 56 → slice_index (sent_counts after) rank ≤ 2 ^ 56
+  pub nearer : reader_now.done ≡ false → turns_left (slice_index (sent_counts after) rank) reader_now.held < turns_left (slice_index (sent_counts before) rank) reader.held
+  pub ended : reader_now.done ≡ true → EndedWith fault reader_now (left source_now) (count source) (count source_now)
+  pub going_on : reader_now.done ≡ false → count source_now ≡ count source
+  pub failed_read_took_nothing : fault ≡ Some Read → left source ≡ left source_now
+
+-- A turn found a line for which the rank's count has no room, with the limit that its counter gave.
+pub record FullAtLine {S : Type 0} (left : S → Told) (count : S → ℕ) (limit sent : ℕ) (reader : Reading) (source source_now : S) : Type 0 where
+  pub limit_is : limit ≡ 2 ^ 56
+  pub many : 2 ^ 56 ≤ sent
+  pub no_read_failed : count source_now ≡ count source
+  pub line : HasLine (to_come reader.held (left source))

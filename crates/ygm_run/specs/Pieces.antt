@@ -1,8 +1,9 @@
--- The bytes that were read and not given yet, and how they are kept.
-use Rattle.std.specs.Prelude.{◌≡◌, ℕ, ◌+◌, ◌<◌, ◌≤◌, List, ◌∷◌, ◌++◌, length, vec_len, vec_capacity, slice_range}
+-- Only private functions and the private view of a reader cite this: the bytes that were read and not given yet.
+use Rattle.std.specs.Prelude.{◌≡◌, ℕ, ◌+◌, ◌<◌, ◌≤◌, List, ◌∷◌, ◌++◌, length, take, vec_len, vec_capacity, slice_range}
+use Rattle.ygm_io.specs.Content.{Told, TakenFrom, NothingLeft}
 use Rattle.ygm_run.specs.declared.pieces.Pieces.{Pieces}
 use Rattle.ygm_run.specs.declared.pieces.TheConstants.{READING_SPACE}
-use Rattle.ygm_run.specs.Lines.{max_line, text_of, LacksLf}
+use Rattle.ygm_run.specs.Lines.{max_line, text_of, LacksLf, StartsTooLong}
 
 -- the bytes of the piece that was read last, without those that were given
 abbrev pub waiting_in : Pieces → List ℕ
@@ -11,6 +12,10 @@ waiting_in pieces = slice_range pieces.buffer.items pieces.start pieces.end
 -- the bytes that were read and not given
 abbrev pub held_in : Pieces → List ℕ
 held_in pieces = pieces.carry.items ++ waiting_in pieces
+
+-- these and the first bytes of the buffer, which were read after them
+abbrev pub held_with : ℕ → Pieces → List ℕ
+held_with count pieces = held_in pieces ++ take count pieces.buffer.items
 
 -- what holds between two turns
 pub record AreOpen (pieces : Pieces) : Type 0 where
@@ -41,3 +46,26 @@ pub record AreLastLine (bytes text : List ℕ) : Type 0 where
   pub some : 0 < length bytes
   pub short : length bytes ≤ max_line
   pub text_is : text ≡ text_of bytes
+
+-- a line was cut off the front of the bytes, and what is held then came in one piece
+pub record GaveText (bytes text held : List ℕ) : Type 0 where
+  pub line : StartsWithLine bytes text held
+  pub bound : length held ≤ READING_SPACE
+
+-- the bytes are held, and have no whole line and are none that is too long
+pub record IsPartial (bytes held : List ℕ) : Type 0 where
+  pub none : held ≡ bytes
+  pub partial : LacksLf held
+  pub short : length held ≤ max_line
+
+-- the bytes are held, and begin with a line that is too long, whatever follows
+pub record IsTooLong (bytes held : List ℕ) : Type 0 where
+  pub err : held ≡ bytes
+  pub too_long : (rest : List ℕ) → StartsTooLong (held ++ rest)
+
+-- a read gave this many bytes, at the front of the buffer
+pub record GavePiece {S : Type 0} (left : S → Told) (faults : S → ℕ) (count : ℕ) (buffer : List ℕ) (source_old source_new : S) : Type 0 where
+  pub within : count ≤ READING_SPACE
+  pub taken : TakenFrom (take count buffer) (left source_old) (left source_new)
+  pub end : count ≡ 0 → NothingLeft (left source_old)
+  pub stands : faults source_new ≡ faults source_old

@@ -1,14 +1,16 @@
--- What a turn of a reader answers, and what is to come before and after it.
-use Rattle.std.specs.Prelude.{◌≡◌, ◌⊎◌, ℕ, ◌++◌, List, [], ◌∷◌, length, ◌<◌, ◌≤◌, Bool, true, false, Option, Result, Ok, Err, ⊤}
+-- What a turn of a reader returns, what is to come before and after it, and the outcomes of a turn.
+use Rattle.std.specs.Prelude.{◌≡◌, ◌⊎◌, ℕ, ◌++◌, List, [], ◌∷◌, length, ◌<◌, ◌≤◌, Bool, true, false, is_some, Option, IfSome, Some, Result, Ok, Err, ⊤}
 use Rattle.std.specs.Option.{option_map}
 use Rattle.ygm_io.specs.Content.{Told, TakenFrom, NothingLeft}
+use Rattle.ygm_io.specs.Rising.{Rose, next_count}
 use Rattle.ygm_run.specs.declared.line_reader.Got.{Got}
 use Rattle.ygm_run.specs.declared.line_reader.Got.TheVariants.{Line, More, End}
 use Rattle.ygm_run.specs.declared.line_reader.LineFault.{LineFault}
 use Rattle.ygm_run.specs.declared.line_reader.LineFault.TheVariants.{ReadFault, LineTooLong, NoMemory}
-use Rattle.ygm_run.specs.Lines.{lines_of, text_of, max_line, LacksLf}
+use Rattle.ygm_run.specs.Lines.{lines_of, text_of, max_line, LacksLf, StartsTooLong}
+use Rattle.ygm_run.specs.Reading.{Reading}
 
--- what a turn answers
+-- what a turn returns
 abbrev pub Answer : Type 0
 Answer = Result Got LineFault
 
@@ -48,16 +50,14 @@ pub record PieceBehind (before now : List ℕ) : Type 0 where
   pub partial : LacksLf before
   pub short : length before ≤ max_line
 
+-- ---- facts by what a turn returns
+
 -- a fact of the line that was given
 abbrev pub IfLine : Answer → (List ℕ → Type 0) → Type 0
 IfLine (Ok (Line line)) P = P line
 IfLine (Ok More) P = ⊤
 IfLine (Ok End) P = ⊤
 IfLine (Err fault) P = ⊤
-
--- a fact where a line was given
-abbrev pub OnLine : Answer → Type 0 → Type 0
-OnLine answer P = IfLine answer (λ _. P)
 
 -- a fact where none was given
 abbrev pub UnlessLine : Answer → Type 0 → Type 0
@@ -82,23 +82,35 @@ OnEnd (Err fault) P = ⊤
 abbrev pub IfTooLong : Answer → (ℕ → Type 0) → Type 0
 IfTooLong (Ok got) P = ⊤
 IfTooLong (Err ReadFault) P = ⊤
-IfTooLong (Err (LineTooLong line)) P = P line
+IfTooLong (Err (LineTooLong number)) P = P number
 IfTooLong (Err NoMemory) P = ⊤
 
--- a fact in each answer but a fault of reading
+abbrev pub OnReadFault : Answer → Type 0 → Type 0
+OnReadFault (Ok got) P = ⊤
+OnReadFault (Err ReadFault) P = P
+OnReadFault (Err (LineTooLong number)) P = ⊤
+OnReadFault (Err NoMemory) P = ⊤
+
+-- a fact unless a read failed
 abbrev pub UnlessReadFault : Answer → Type 0 → Type 0
 UnlessReadFault (Ok got) P = P
 UnlessReadFault (Err ReadFault) P = ⊤
-UnlessReadFault (Err (LineTooLong line)) P = P
+UnlessReadFault (Err (LineTooLong number)) P = P
 UnlessReadFault (Err NoMemory) P = P
 
--- the answers after which there is no other turn
+abbrev pub OnNoMemory : Answer → Type 0 → Type 0
+OnNoMemory (Ok got) P = ⊤
+OnNoMemory (Err ReadFault) P = ⊤
+OnNoMemory (Err (LineTooLong number)) P = ⊤
+OnNoMemory (Err NoMemory) P = P
+
+-- whether there is no other turn
 abbrev pub is_last : Answer → Bool
 is_last (Ok (Line line)) = false
 is_last (Ok More) = false
 is_last (Ok End) = true
 is_last (Err ReadFault) = true
-is_last (Err (LineTooLong line)) = true
+is_last (Err (LineTooLong number)) = true
 is_last (Err NoMemory) = false
 
 -- neither a line nor a promise of one: the end, or a fault that says nothing of the lines
@@ -107,5 +119,59 @@ EndsOrFails (Ok (Line line)) = ⊥
 EndsOrFails (Ok More) = ⊥
 EndsOrFails (Ok End) = ⊤
 EndsOrFails (Err ReadFault) = ⊤
-EndsOrFails (Err (LineTooLong line)) = ⊥
+EndsOrFails (Err (LineTooLong number)) = ⊥
 EndsOrFails (Err NoMemory) = ⊤
+
+-- ---- the outcomes of a turn, from the reader and its source before and after it
+
+-- A line was given. Over a source that exposes its bytes, it is the first of those that were to come.
+pub record GaveLine {S : Type 0} (left : S → Told) (text : List ℕ) (old new : Reading) (source_old source_new : S) : Type 0 where
+  pub line : FirstTaken text (lines_to_come old.held (left source_old)) (lines_to_come new.held (left source_new))
+  pub raw_line : RawLineTaken text (to_come old.held (left source_old)) (to_come new.held (left source_new))
+  pub line_counted : new.given ≡ next_count old.given
+  pub line_bound : length new.held ≤ 65536
+
+-- No line was given, and no byte was lost or repeated.
+pub record GaveNoLine {S : Type 0} (left : S → Told) (old new : Reading) (source_old source_new : S) : Type 0 where
+  pub to_come_stands : to_come new.held (left source_new) ≡ to_come old.held (left source_old)
+  pub number_stands : new.given ≡ old.given
+
+-- The read gave bytes, and no line is whole yet.
+pub record ReadMore (old new : Reading) : Type 0 where
+  pub more_was_read : length old.held < length new.held
+  pub more_is_partial : LacksLf new.held
+  pub more_is_short : length new.held ≤ max_line
+
+-- Nothing was to come.
+pub record MetEnd {S : Type 0} (left : S → Told) (old new : Reading) (source_old : S) : Type 0 where
+  pub end_all_given : (old.held ≡ []) × (new.held ≡ [])
+  pub end_nothing_left : NothingLeft (to_come old.held (left source_old))
+
+-- The next line, of this number, is too long. The piece that this turn read made it so.
+pub record MetTooLong {S : Type 0} (left : S → Told) (number : ℕ) (old new : Reading) (source_old : S) : Type 0 where
+  pub too_long : StartsTooLong new.held
+  pub too_long_to_come : IfSome (to_come old.held (left source_old)) StartsTooLong
+  pub too_long_by_a_piece : PieceBehind old.held new.held
+  pub too_long_number : number ≡ next_count old.given
+
+-- The read failed, and took nothing. What is held has no whole line, and is no line that is too long.
+pub record ReadFailed {S : Type 0} (left : S → Told) (count : S → ℕ) (held : List ℕ) (source_old source_new : S) : Type 0 where
+  pub cause : Rose (count source_old) (count source_new)
+  pub read_fault_takes_nothing : left source_new ≡ left source_old
+  pub read_fault_is_partial : LacksLf held × (length held ≤ max_line)
+
+-- The turn was out of memory before it read, and changed nothing.
+pub record ChangedNothing {S : Type 0} (old new : Reading) (source_old source_new : S) : Type 0 where
+  pub no_memory : new ≡ old
+  pub no_memory_source : source_new ≡ source_old
+
+-- what holds after each turn
+pub record TookTurn {S : Type 0} (left : S → Told) (count : S → ℕ) (answer : Answer) (old new : Reading) (source_old source_new : S) : Type 0 where
+  -- where nothing is to come, there is no other result but a fault of reading or of memory
+  pub end_if_nothing_to_come : to_come old.held (left source_old) ≡ Some [] → EndsOrFails answer
+  pub faults_stand : UnlessReadFault answer (count source_new ≡ count source_old)
+  pub never_falls : count source_old ≤ count source_new
+  pub done : new.done ≡ is_last answer
+  -- at most a piece of what remained was taken, from its front
+  pub rest : PieceTaken (left source_old) (left source_new)
+  pub tells : is_some (left source_new) ≡ is_some (left source_old)

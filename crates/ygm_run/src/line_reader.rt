@@ -1,9 +1,8 @@
 //! The lines of a source.
-ghost use Rattle.std.specs.Prelude.{◌≡◌, ◌<◌, ◌≤◌, [], length, false, is_some, Some, IfSome, IfOk, IsErrOf};
-ghost use Rattle.ygm_io.specs.Content.{NothingLeft};
-ghost use Rattle.ygm_io.specs.Rising.{Rose, next_count};
-ghost use Rattle.ygm_run.specs.Lines.{LacksLf, StartsTooLong, max_line};
-ghost use Rattle.ygm_run.specs.Turns.{FirstTaken, PieceBehind, PieceTaken, RawLineTaken, IfLine, OnLine, UnlessLine, OnMore, OnEnd, IfTooLong, UnlessReadFault, EndsOrFails, is_last, to_come, lines_to_come};
+ghost use Rattle.std.specs.Prelude.{◌≡◌, ◌≤◌, [], length, false, IfOk};
+ghost use Rattle.ygm_io.specs.Rising.{next_count};
+ghost use Rattle.ygm_run.specs.Lines.{max_line};
+ghost use Rattle.ygm_run.specs.Turns.{ChangedNothing, GaveLine, GaveNoLine, IfLine, IfTooLong, MetEnd, MetTooLong, OnEnd, OnMore, OnNoMemory, OnReadFault, ReadFailed, ReadMore, TookTurn, UnlessLine};
 
 pub use crate::pieces::READING_SPACE;
 use crate::pieces::{Pieces, TooLong};
@@ -116,51 +115,15 @@ impl LineReader {
     /// source as they were. After `ReadFault`, `LineTooLong` and `End` there is no other turn.
     pub fn turn<S: Source>(&mut self, source: &mut S) -> Result<Got, LineFault>
         requires { self.old.done ≡ false }
-
-        // Over a source that tells, the line is the first of those that were to come.
-        ensures line { IfLine result (λ line.
-            FirstTaken line (lines_to_come self.old.held (S.left source.old)) (lines_to_come self.new.held (S.left source.new))) }
-        ensures raw_line { IfLine result (λ line.
-            RawLineTaken line (to_come self.old.held (S.left source.old)) (to_come self.new.held (S.left source.new))) }
-        ensures line_counted { OnLine result (self.new.given ≡ next_count self.old.given) }
-        ensures line_bound { OnLine result (length self.new.held ≤ 65536) }
-
-        // Every other answer loses and repeats nothing.
-        ensures to_come_stands { UnlessLine result
-            (to_come self.new.held (S.left source.new) ≡ to_come self.old.held (S.left source.old)) }
-        ensures number_stands { UnlessLine result (self.new.given ≡ self.old.given) }
-
-        ensures more_was_read { OnMore result (length self.old.held < length self.new.held) }
-        ensures more_is_partial { OnMore result (LacksLf self.new.held) }
-        ensures more_is_short { OnMore result (length self.new.held ≤ max_line) }
-
-        ensures end_all_given { OnEnd result ((self.old.held ≡ []) × (self.new.held ≡ [])) }
-        ensures end_nothing_left { OnEnd result (NothingLeft (to_come self.old.held (S.left source.old))) }
-
-        // Where nothing is to come, there is no other answer but a fault of reading or of memory.
-        ensures end_if_nothing_to_come { to_come self.old.held (S.left source.old) ≡ Some [] → EndsOrFails result }
-
-        ensures too_long { IfTooLong result (λ line. StartsTooLong self.new.held) }
-        ensures too_long_to_come { IfTooLong result (λ line.
-            IfSome (to_come self.old.held (S.left source.old)) StartsTooLong) }
-        // The piece that this turn read made it so.
-        ensures too_long_by_a_piece { IfTooLong result (λ line. PieceBehind self.old.held self.new.held) }
-        ensures too_long_number { IfTooLong result (λ line. line ≡ next_count self.old.given) }
-
-        ensures cause { IsErrOf result LineFault.ReadFault → Rose (S.faults source.old) (S.faults source.new) }
-        // Nothing was taken in a turn of which a read failed.
-        ensures read_fault_takes_nothing { IsErrOf result LineFault.ReadFault → S.left source.new ≡ S.left source.old }
-        // What was read before the fault has no other whole line, and none that is too long.
-        ensures read_fault_is_partial { IsErrOf result LineFault.ReadFault →
-            LacksLf self.new.held × (length self.new.held ≤ max_line) }
-        ensures faults_stand { UnlessReadFault result (S.faults source.new ≡ S.faults source.old) }
-        ensures never_falls { S.faults source.old ≤ S.faults source.new }
-        ensures no_memory { IsErrOf result LineFault.NoMemory → self.new ≡ self.old }
-        ensures no_memory_source { IsErrOf result LineFault.NoMemory → source.new ≡ source.old }
-        ensures done { self.new.done ≡ is_last result }
-        // At most a piece of what is left was taken, from its front.
-        ensures rest { PieceTaken (S.left source.old) (S.left source.new) }
-        ensures tells { is_some (S.left source.new) ≡ is_some (S.left source.old) }
+        ensures line { IfLine result (λ text. GaveLine S.left text self.old self.new source.old source.new) }
+        // Every other result loses and repeats nothing.
+        ensures no_line { UnlessLine result (GaveNoLine S.left self.old self.new source.old source.new) }
+        ensures more { OnMore result (ReadMore self.old self.new) }
+        ensures end { OnEnd result (MetEnd S.left self.old self.new source.old) }
+        ensures too_long { IfTooLong result (λ number. MetTooLong S.left number self.old self.new source.old) }
+        ensures read_fault { OnReadFault result (ReadFailed S.left S.faults self.new.held source.old source.new) }
+        ensures no_memory { OnNoMemory result (ChangedNothing self.old self.new source.old source.new) }
+        ensures each_turn { TookTurn S.left S.faults result self.old self.new source.old source.new }
     {
         if let Some(text) = self.pieces.whole_line()? {
             return Ok(self.give(text));

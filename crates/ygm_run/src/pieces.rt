@@ -1,9 +1,8 @@
 //! The bytes that were read and not given yet.
-ghost use Rattle.std.specs.Prelude.{◌≡◌, ◌+◌, ◌<◌, ◌≤◌, ℕ, List, [], ◌∷◌, ◌++◌, length, take, drop, IfSome, IfNone, IfOk, OnOk, OnErr};
-ghost use Rattle.ygm_io.specs.Content.{TakenFrom, NothingLeft};
-ghost use Rattle.ygm_io.specs.Rising.{Rose};
-ghost use Rattle.ygm_run.specs.Lines.{LacksLf, StartsTooLong, text_of, max_line};
-ghost use Rattle.ygm_run.specs.Pieces.{AreGathered, AreLastLine, AreOpen, StartsWithLine, held_in};
+ghost use Rattle.std.specs.Prelude.{◌≡◌, ◌+◌, ◌<◌, ◌≤◌, [], ◌∷◌, ◌++◌, length, take, drop, IfSome, IfNone, IfOk, OnOk, OnErr};
+ghost use Rattle.ygm_run.specs.Lines.{LacksLf, text_of, max_line};
+ghost use Rattle.ygm_run.specs.Pieces.{AreGathered, AreLastLine, AreOpen, GavePiece, GaveText, IsPartial, IsTooLong, held_in, held_with};
+ghost use Rattle.ygm_run.specs.Turns.{ReadFailed};
 
 use memchr::memchr;
 use std::alloc::{AllocError, Global};
@@ -50,9 +49,7 @@ impl Pieces {
     pub fn whole_line(&mut self) -> Result<Option<Vec<u8>>, AllocError>
         requires { AreOpen self.old }
         ensures open { OnOk result (AreOpen self.new) }
-        ensures line { IfOk result (λ found. IfSome found (λ text.
-            StartsWithLine (held_in self.old) text.items (held_in self.new))) }
-        ensures bound { IfOk result (λ found. IfSome found (λ text. length (held_in self.new) ≤ READING_SPACE)) }
+        ensures line { IfOk result (λ found. IfSome found (λ text. GaveText (held_in self.old) text.items (held_in self.new))) }
         ensures none { IfOk result (λ found. IfNone found (LacksLf (held_in self.old))) }
         ensures stays { IfOk result (λ found. IfNone found (self.new ≡ self.old)) }
         ensures err { OnErr result (self.new ≡ self.old) }
@@ -91,13 +88,8 @@ impl Pieces {
         ensures open { AreOpen self.new }
         ensures gathered { AreGathered self.new }
         ensures same { held_in self.new ≡ held_in self.old }
-        ensures within { IfOk result (λ count. count ≤ READING_SPACE) }
-        ensures taken { IfOk result (λ count.
-            TakenFrom (take count self.new.buffer.items) (S.left source.old) (S.left source.new)) }
-        ensures end { IfOk result (λ count. count ≡ 0 → NothingLeft (S.left source.old)) }
-        ensures stands { OnOk result (S.faults source.new ≡ S.faults source.old) }
-        ensures cause { OnErr result (Rose (S.faults source.old) (S.faults source.new)) }
-        ensures unchanged { OnErr result (S.left source.new ≡ S.left source.old) }
+        ensures piece { IfOk result (λ count. GavePiece S.left S.faults count self.new.buffer.items source.old source.new) }
+        ensures failed { OnErr result (ReadFailed S.left S.faults (held_in self.new) source.old source.new) }
         ensures never_falls { S.faults source.old ≤ S.faults source.new }
     {
         source.read(&mut self.buffer)
@@ -125,15 +117,9 @@ impl Pieces {
         requires gathered { AreGathered self.old }
         requires within { count ≤ READING_SPACE }
         ensures open { OnOk result (AreOpen self.new) }
-        ensures line { IfOk result (λ found. IfSome found (λ text.
-            StartsWithLine (held_in self.old ++ take count self.old.buffer.items) text.items (held_in self.new))) }
-        ensures bound { IfOk result (λ found. IfSome found (λ text. length (held_in self.new) ≤ READING_SPACE)) }
-        ensures none { IfOk result (λ found. IfNone found
-            (held_in self.new ≡ held_in self.old ++ take count self.old.buffer.items)) }
-        ensures partial { IfOk result (λ found. IfNone found (LacksLf (held_in self.new))) }
-        ensures short { IfOk result (λ found. IfNone found (length (held_in self.new) ≤ max_line)) }
-        ensures err { OnErr result (held_in self.new ≡ held_in self.old ++ take count self.old.buffer.items) }
-        ensures too_long { OnErr result ((rest : List ℕ) → StartsTooLong (held_in self.new ++ rest)) }
+        ensures line { IfOk result (λ found. IfSome found (λ text. GaveText (held_with count self.old) text.items (held_in self.new))) }
+        ensures none { IfOk result (λ found. IfNone found (IsPartial (held_with count self.old) (held_in self.new))) }
+        ensures too_long { OnErr result (IsTooLong (held_with count self.old) (held_in self.new)) }
     {
         let piece = &self.buffer[..count];
         let found = line_end(piece);

@@ -32,11 +32,11 @@ returns-in_err-fault-clause-full g c =
     rw (p.1, p.2)
     (full_so _ (IsFull (g.S.Source.left c.args.source.now) (g.S.Source.faults c.take_turn.new.source)) _
     (λ limit at. record {
-      limit_is = at.0;
+      limit_is = at.limit_is;
       lines = told_so (λ bytes. length before.fed.raws < length (good_lines (raw_lines bytes))) (λ bytes. 2 ^ 56 < length (good_lines (raw_lines bytes))) (g.S.Source.left c.args.source.now)
-          (λ bytes more. omega (arith, more, at.1, before.sent, before.fed.given))
-          (many_good before.fed.raws (g.S.Source.left c.args.source.now) (to_come c.loop-fault.reader.held (g.S.Source.left c.loop-fault.source)) before.fed.short (from_start _ _ _ before.fed.taken) at.3);
-      no_read_failed = at.2 ∙ before.going_on (sym c.done.ensures ∙ c.loop-fault-test.true);
+          (λ bytes more. omega (arith, more, at.many, before.sent, before.fed.given))
+          (many_good before.fed.raws (g.S.Source.left c.args.source.now) (to_come c.loop-fault.reader.held (g.S.Source.left c.loop-fault.source)) before.fed.short (from_start _ _ _ before.fed.taken) at.line);
+      no_read_failed = at.no_read_failed ∙ before.going_on (sym c.done.ensures ∙ c.loop-fault-test.true);
     })
     now.full)
 
@@ -46,13 +46,13 @@ returns-in_err-fault-clause-rest g c = rest_more (g.S.Source.left c.args.source.
 pub loop-fault-preserved : goal.loop-fault-preserved
 loop-fault-preserved g c =
     let before = c.loop-fault.invariant in
-    let now = c.in_ok-fault.ensures in
+    let now = c.in_ok-fault.ensures.fed in
     let unfinished : c.loop-fault.reader.done ≡ false = sym c.done.ensures ∙ c.loop-fault-test.true in
     let step = subst (λ n. Fed n c.args.rank c.loop-fault.world.comms.items c.take_turn.new.world.comms.items c.loop-fault.world.links c.take_turn.new.world.links c.loop-fault.reader c.take_turn.new.reader (g.S.Source.left c.loop-fault.source) (g.S.Source.left c.take_turn.new.source)) before.ranks now.fed in
     record {
       ready = now.ready;
       fed = fed_more _ _ _ _ _ _ _ _ _ _ _ _ _ _ before.fed step;
-      ranks = now.ranks ∙ before.ranks;
+      ranks = c.take_turn.ensures.ranks ∙ before.ranks;
       sent = omega (arith, now.sent, before.sent);
       bound = omega (arith, now.bound (omega (arith, before.sent, before.bound)), now.sent, before.sent);
       going_on = λ e. now.going_on e ∙ before.going_on unfinished;

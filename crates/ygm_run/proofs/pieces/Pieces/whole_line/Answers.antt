@@ -1,5 +1,6 @@
 use Rattle.std.proofs.Common.{length, ◌∙◌, sym, arith, drop, ◌-◌}
 use Rattle.std.proofs.lemmas.List.{nil_from_length, length-take}
+use Rattle.std.proofs.lemmas.Grind.{common_steps}
 use Rattle.ygm_run.proofs.Parts.{waiting_line, nothing_carried}
 use Rattle.ygm_run.proofs.pieces.Pieces.whole_line.Goals as goal
 
@@ -10,10 +11,13 @@ returns-clause-line c =
     let within = c.in-Some.ensures.within in
     let most = length-take (before.end - before.start) (drop before.start bytes) in
     let none = nothing_carried (length before.carry.items) before.start before.end (λ some. c.requires.one_place (omega arith)) (omega (arith, within, most)) in
-    rw (sym c.deref.ensures.value) (waiting_line before.carry.items bytes c.in_ok-text.text.items before.start before.end c.in-Some.length
-    (nil_from_length before.carry.items none)
-    within
-    (omega arith)
-    c.in-Some.ensures.partial
-    c.in-Some.ensures.parts
-    (c.in_ok-text.ensures.items ∙ c.text_len.ensures.text))
+    record {
+      line = rw (sym c.deref.ensures.value) (waiting_line before.carry.items bytes c.in_ok-text.text.items before.start before.end c.in-Some.length
+          (nil_from_length before.carry.items none)
+          within
+          (omega arith)
+          c.in-Some.ensures.partial
+          c.in-Some.ensures.parts
+          (c.in_ok-text.ensures.items ∙ c.text_len.ensures.text));
+      bound = grind (arith, common_steps);
+    }
