@@ -2,14 +2,12 @@
 use Rattle.std.proofs.Common.{◌≡◌, ◌≢◌, [], ℕ, ◌^◌, ◌<◌, ◌≤◌, List, ◌++◌, length, Option, Some, None, Result, Ok, Err, sym, ap, ◌∙◌}
 use Rattle.std.proofs.lemmas.List.{append_cancel_left, append-nil}
 use Rattle.std.proofs.lemmas.Option.{none-some, same_Some}
+use Rattle.list_facts.proofs.Outcomes.{same_ok}
 use Rattle.msg_codec.specs.declared.wire.WireFault.{WireFault}
 use Rattle.std.specs.Prelude.{IfOk, IfNone}
 use Rattle.msg_codec.specs.Reading.{whole}
 use Rattle.msg_codec.specs.ItemCount.{spelled_item_count, item_count_of}
 use Rattle.msg_codec.specs.Laws.{item_count_again, whole_again}
-
-same_ok : {A : Type 0} (r : Result A WireFault) (x y : A) → r ≡ Ok x → r ≡ Ok y → x ≡ y
-same_ok r x y e f = cc
 
 value_is : {A : Type 0} (r : Result (A × ℕ) WireFault) (v w : A) (m n : ℕ) → r ≡ Ok (v, m) → r ≡ Ok (w, n) → v ≡ w
 value_is {A} r v w m n e f = ap (λ (p : A × ℕ). p.0) (same_ok r (v, m) (w, n) e f)

@@ -6,6 +6,7 @@ use Rattle.std.proofs.lemmas.List.{append-nil, take_at, drop_at, length-take, ge
 use Rattle.std.proofs.lemmas.List.Elements.{All-take, All-drop}
 use Rattle.std.proofs.Math.Seq.{take-add, take-length}
 use Rattle.std.proofs.lemmas.Nat.{le_bytes_4, le_bytes_8, from_le_bytes-to_le_bytes_4, from_le_bytes-to_le_bytes_8}
+use Rattle.list_facts.proofs.Outcomes.{guard_ok, same_ok}
 use Rattle.msg_codec.specs.declared.wire.WireFault.{WireFault}
 use Rattle.msg_codec.specs.declared.wire.WireFault.TheVariants.{Short, TooLong}
 use Rattle.msg_codec.specs.Bytes.{AreBytes}
@@ -25,17 +26,6 @@ each_byte bytes fit i =
 bind_ok : {A B : Type 0} (r : Result A WireFault) (f : A → Result B WireFault) (y : B) → (r >>= f) ≡ Ok y → (x : A) × (r ≡ Ok x) × (f x ≡ Ok y)
 bind_ok (Ok x) f y e = (x, refl, e)
 bind_ok (Err d) f y e = absurd cc
-
--- a test that did not fail
-guard_ok : {A : Type 0} (b : Bool) (d : WireFault) (r : Result A WireFault) (y : A) → cond b (Err d) r ≡ Ok y → (b ≡ false) × (r ≡ Ok y)
-guard_ok true d r y e = absurd cc
-guard_ok false d r y e = (refl, e)
-
-abbrev done : {A : Type 0} → A → Result A WireFault
-done x = Ok x
-
-ok_is : {A : Type 0} (x y : A) → done x ≡ done y → x ≡ y
-ok_is x y e = cc
 
 abbrev found : {A : Type 0} → A → ℕ → Result (A × ℕ) WireFault
 found x len = Ok (x, len)
@@ -68,7 +58,7 @@ unfolding number_reading
 number_spelled bytes n len fit e =
     let g = guard_ok (ltb (length bytes) 8) Short (Ok (from_le_bytes w64 bytes, 8)) (n, len) e in
     let long : 8 ≤ length bytes = ltb-false _ _ g.0 in
-    let same = ok_is (from_le_bytes w64 bytes, 8) (n, len) g.1 in
+    let same = same_ok _ (from_le_bytes w64 bytes, 8) (n, len) refl g.1 in
     let each = each_byte bytes fit in
     let front = each_byte (take 8 bytes) (All-take (λ b. b < 2 ^ 8) 8 bytes fit) in
     let below : from_le_bytes w64 bytes < 2 ^ 64 = omega (arith, each 0, each 1, each 2, each 3, each 4, each 5, each 6, each 7) in
@@ -104,7 +94,7 @@ body_spelled bytes body len fit e =
     let four : 4 ≤ length bytes = ltb-false _ _ a.0 in
     let most : n ≤ 1048576 = ltb-false _ _ b.0 in
     let whole : n ≤ length rest = ltb-false _ _ d.0 in
-    let same = ok_is (take n rest, 4 + n) (body, len) d.1 in
+    let same = same_ok _ (take n rest, 4 + n) (body, len) refl d.1 in
     let size : length (take n rest) ≡ n = omega (arith, length-take n rest) in
     let front = each_byte (take 4 bytes) (All-take (λ b. b < 2 ^ 8) 4 bytes fit) in
     let field : take 4 bytes ≡ to_le_bytes w32 n = sym (le_bytes_4 (take 4 bytes) n (omega (arith, length-take 4 bytes)) front (front_4 bytes)) in
@@ -126,7 +116,7 @@ pair_parts : {A B : Type 0} (P : A → Type 0) (Q : B → Type 0) (s : A → Lis
     → (P pair.0 × Q pair.1) × (take len bytes ≡ s pair.0 ++ t pair.1) × (len ≤ length bytes)
 pair_parts {A} {B} P Q s t bytes a b m n pair len p q e =
     let spelled : take (m + n) bytes ≡ s a ++ t b = take-add m n bytes ∙ rw (p.1, q.1) refl in
-    subst (λ (x : (A × B) × ℕ). (P x.0.0 × Q x.0.1) × (take x.1 bytes ≡ s x.0.0 ++ t x.0.1) × (x.1 ≤ length bytes)) (ok_is ((a, b), m + n) (pair, len) e) ((p.0, q.0), spelled, omega (arith, p.2, q.2, length-drop m bytes))
+    subst (λ (x : (A × B) × ℕ). (P x.0.0 × Q x.0.1) × (take x.1 bytes ≡ s x.0.0 ++ t x.0.1) × (x.1 ≤ length bytes)) (same_ok _ ((a, b), m + n) (pair, len) refl e) ((p.0, q.0), spelled, omega (arith, p.2, q.2, length-drop m bytes))
 
 pub pair_spelled : {A B : Type 0} (first : List ℕ → Result (A × ℕ) WireFault) (second : List ℕ → Result (B × ℕ) WireFault) (P : A → Type 0) (Q : B → Type 0) (s : A → List ℕ) (t : B → List ℕ)
     → ((bytes : List ℕ) (a : A) (len : ℕ) → AreBytes bytes → first bytes ≡ Ok (a, len) → P a × (take len bytes ≡ s a) × (len ≤ length bytes))

@@ -1,7 +1,8 @@
 -- The path is the one list of ranks that its rules allow.
-use Rattle.std.proofs.Common.{◌≡◌, ◌≢◌, ℕ, ◌<◌, Bool, true, false, nat_eq, eq-eqb, List, [], ◌∷◌, ◌++◌, ap, sym, ◌∙◌, refl, subst, inl, inr}
+use Rattle.std.proofs.Common.{◌≡◌, ◌≢◌, ℕ, ◌<◌, Bool, true, false, nat_eq, List, [], ◌∷◌, ◌++◌, ap, sym, ◌∙◌, refl, subst, inl, inr}
 use Rattle.std.specs.Bool.{IsTrue}
-use Rattle.std.specs.List.{IsDistinct, AllByRecursion}
+use Rattle.std.specs.List.{IsDistinct}
+use Rattle.list_facts.proofs.Distinct.{not_before}
 use Rattle.ygm_route.specs.declared.scheme.Scheme.{Scheme}
 use Rattle.ygm_route.specs.Layout.{Shape, AreRanks}
 use Rattle.ygm_route.specs.Hop.{hop}
@@ -41,25 +42,6 @@ module _ (layout : Shape) (scheme : Scheme) where
   path_is_only_path s d ranks within p =
       p.ends ∙ only_between s d within p.between p.arrives_once (subst (λ rs. (a b : ℕ) → IsTrue (crosses rs a b) → b ≡ hop layout scheme a d) p.ends p.follows)
 
--- what holds of each element holds of the second after a beginning
-all_second : (P : ℕ → Type 0) (before : List ℕ) (a b : ℕ) (after : List ℕ) → AllByRecursion P (before ++ a ∷ b ∷ after) → P b
-all_second P [] a b after all = all.1.0
-all_second P (y ∷ before) a b after all = all_second P before a b after all.1
-
--- what stands later in a list without repeats doesn't stand before
-not_before : (before : List ℕ) (a b : ℕ) (after : List ℕ) → IsDistinct nat_eq (before ++ a ∷ b ∷ after) → ¬ IsTrue (passes (before ++ a ∷ []) b)
-unfolding IsDistinct
-not_before [] a b after apart h =
-    elim (passes-cons a [] b h) [
-      | inl e ↦ (let same : nat_eq a b ≡ true = eq-eqb a b e in let other : nat_eq a b ≡ false = apart.0.0 in cc)
-      | inr none ↦ (let f : ◌≡◌ {A = Bool} false true = none in cc)
-    ]
-not_before (x ∷ before) a b after apart h =
-    elim (passes-cons x (before ++ a ∷ []) b h) [
-      | inl e ↦ (let same : nat_eq x b ≡ true = eq-eqb x b e in let other : nat_eq x b ≡ false = all_second (λ y. nat_eq x y ≡ false) before a b after apart.0 in cc)
-      | inr t ↦ not_before before a b after apart.1 t
-    ]
-
 pub hops_never_lead_back : (layout : Shape) (scheme : Scheme) (s d : ℕ) (before after : List ℕ) (a b : ℕ) → AreRanks layout s d → s ≢ d → path layout scheme s d ≡ before ++ a ∷ b ∷ after → ¬ IsTrue (passes (before ++ a ∷ []) b)
 hops_never_lead_back layout scheme s d before after a b ranks apart e =
-    not_before before a b after (subst (λ xs. IsDistinct nat_eq xs) e (path_distinct layout scheme s d ranks apart))
+    λ on. let none = not_before nat_eq before a b after (subst (λ xs. IsDistinct nat_eq xs) e (path_distinct layout scheme s d ranks apart)) in cc

@@ -1,40 +1,20 @@
 -- The laws of paths, for each way that a path can go.
-use Rattle.std.proofs.Common.{◌≡◌, ◌≢◌, ℕ, ◌<◌, false, nat_eq, List, [], ◌∷◌, ◌++◌, length, ap, sym, ◌∙◌, refl, arith, subst, get_or, length-append}
-use Rattle.std.proofs.Math.Seq.{get_or-append_seam}
+use Rattle.std.proofs.Common.{◌≡◌, ◌≢◌, ℕ, ◌<◌, nat_eq, [], ◌∷◌, ◌++◌, ap, sym, ◌∙◌, refl, subst}
 use Rattle.std.proofs.lemmas.List.{append-nil}
 use Rattle.std.specs.Bool.{IsTrue}
 use Rattle.std.specs.List.{IsDistinct}
-use Rattle.std.proofs.lemmas.Bool.Decides.{nat_tests}
+use Rattle.list_facts.specs.Prefix.{IsPrefix, IsSuffix}
+use Rattle.list_facts.proofs.Distinct.{distinct_two, distinct_three, distinct_four}
+use Rattle.list_facts.proofs.Prefix.{suffix_same}
 use Rattle.ygm_route.specs.declared.scheme.Scheme.{Scheme}
 use Rattle.ygm_route.specs.Layout.{Shape, AreRanks, node}
 use Rattle.ygm_route.specs.Hop.{hop}
-use Rattle.ygm_route.specs.Path.{path, passes, crosses, StartsWith, EndsWith}
+use Rattle.ygm_route.specs.Path.{path, passes, crosses}
 use Rattle.ygm_route.proofs.Lists.{crosses_first, crosses_later, passes_first, passes_later}
 use Rattle.ygm_route.proofs.Hops.{hop-near}
 use Rattle.ygm_route.proofs.Ways.{at_once, over_one, over_two, way}
 use Rattle.ygm_route.proofs.Paths.{path-near, path-one, path-two, path-two_begin, path-two_rest}
 use Rattle.ygm_route.proofs.Standing.{is_sender, is_destination, is_between, is_first, is_second, standing, is_whole, into_one, out_of_one, into_first, first_to_second, out_of_second, crossing}
-
--- the last rank but one
-same_ends : (xs ys : List ℕ) (a a' b : ℕ) → xs ++ a ∷ b ∷ [] ≡ ys ++ a' ∷ b ∷ [] → a ≡ a'
-same_ends xs ys a a' b e =
-    let lengths : length xs ≡ length ys = omega (arith, length-append xs (a ∷ b ∷ []), length-append ys (a' ∷ b ∷ []), ap length e) in
-    sym (get_or-append_seam xs a (b ∷ []) 0) ∙ ap (λ n. get_or (xs ++ a ∷ b ∷ []) n 0) lengths ∙ ap (λ zs. get_or zs (length ys) 0) e ∙ get_or-append_seam ys a' (b ∷ []) 0
-
-apart_test : (a b : ℕ) → a ≢ b → nat_eq a b ≡ false
-apart_test a b ne = grind (arith, nat_tests)
-
-distinct_two : (a b : ℕ) → a ≢ b → IsDistinct nat_eq (a ∷ b ∷ [])
-unfolding IsDistinct
-distinct_two a b ab = ((apart_test a b ab, tt), (tt, tt))
-
-distinct_three : (a b c : ℕ) → a ≢ b → a ≢ c → b ≢ c → IsDistinct nat_eq (a ∷ b ∷ c ∷ [])
-unfolding IsDistinct
-distinct_three a b c ab ac bc = ((apart_test a b ab, (apart_test a c ac, tt)), distinct_two b c bc)
-
-distinct_four : (a b c d : ℕ) → a ≢ b → a ≢ c → a ≢ d → b ≢ c → b ≢ d → c ≢ d → IsDistinct nat_eq (a ∷ b ∷ c ∷ d ∷ [])
-unfolding IsDistinct
-distinct_four a b c d ab ac ad bc bd cd = ((apart_test a b ab, (apart_test a c ac, (apart_test a d ad, tt))), distinct_three b c d bc bd cd)
 
 module _ (layout : Shape) (scheme : Scheme) where
   -- a rank and the destination
@@ -87,34 +67,34 @@ module _ (layout : Shape) (scheme : Scheme) where
   ]
 
   -- from a rank on the path the rest of it is the path from there
-  pub rest_is_path : (s d r : ℕ) → AreRanks layout s d → IsTrue (passes (path layout scheme s d) r) → r ≢ d → EndsWith (path layout scheme s d) (path layout scheme r d)
+  pub rest_is_path : (s d r : ℕ) → AreRanks layout s d → IsTrue (passes (path layout scheme s d) r) → r ≢ d → IsSuffix (path layout scheme r d) (path layout scheme s d)
   rest_is_path s d r ranks h on = elim (standing layout scheme s d ranks r h) [
-    | is_sender e ↦ ([], ap (λ x. path layout scheme x d) (sym e))
+    | is_sender e ↦ record { before = []; joined = ap (λ x. path layout scheme x d) (sym e) }
     | is_destination e ↦ absurd (on (sym e))
-    | is_between over ↦ (s ∷ [], ap (λ xs. s ∷ xs) (path-near layout scheme r d (towards s d r ranks over.m_within) over.second) ∙ sym (path-one layout scheme s d ranks r over))
-    | is_first k over ↦ (s ∷ [], ap (λ xs. s ∷ xs) (path-two_rest layout scheme s d ranks r k over) ∙ sym (path-two layout scheme s d ranks r k over))
-    | is_second m over ↦ (s ∷ m ∷ [], ap (λ xs. s ∷ m ∷ xs) (path-near layout scheme r d (towards s d r ranks over.k_within) over.third) ∙ sym (path-two layout scheme s d ranks m r over))
+    | is_between over ↦ record { before = s ∷ []; joined = ap (λ xs. s ∷ xs) (path-near layout scheme r d (towards s d r ranks over.m_within) over.second) ∙ sym (path-one layout scheme s d ranks r over) }
+    | is_first k over ↦ record { before = s ∷ []; joined = ap (λ xs. s ∷ xs) (path-two_rest layout scheme s d ranks r k over) ∙ sym (path-two layout scheme s d ranks r k over) }
+    | is_second m over ↦ record { before = s ∷ m ∷ []; joined = ap (λ xs. s ∷ m ∷ xs) (path-near layout scheme r d (towards s d r ranks over.k_within) over.third) ∙ sym (path-two layout scheme s d ranks m r over) }
   ]
 
   -- up to a rank on the path it is the path to there
-  pub begin_is_path : (s d r : ℕ) → AreRanks layout s d → IsTrue (passes (path layout scheme s d) r) → r ≢ s → StartsWith (path layout scheme s d) (path layout scheme s r)
+  pub begin_is_path : (s d r : ℕ) → AreRanks layout s d → IsTrue (passes (path layout scheme s d) r) → r ≢ s → IsPrefix (path layout scheme s r) (path layout scheme s d)
   begin_is_path s d r ranks h on = elim (standing layout scheme s d ranks r h) [
     | is_sender e ↦ absurd (on (sym e))
-    | is_destination e ↦ ([], append-nil (path layout scheme s r) ∙ ap (λ x. path layout scheme s x) (sym e))
-    | is_between over ↦ (d ∷ [], ap (λ xs. xs ++ d ∷ []) (path-near layout scheme s r (onto s d r ranks over.m_within) over.early) ∙ sym (path-one layout scheme s d ranks r over))
-    | is_first k over ↦ (k ∷ d ∷ [], ap (λ xs. xs ++ k ∷ d ∷ []) (path-near layout scheme s r (onto s d r ranks over.m_within) over.early) ∙ sym (path-two layout scheme s d ranks r k over))
-    | is_second m over ↦ (d ∷ [], ap (λ xs. xs ++ d ∷ []) (path-two_begin layout scheme s d ranks m r over) ∙ sym (path-two layout scheme s d ranks m r over))
+    | is_destination e ↦ record { rest = []; joined = append-nil (path layout scheme s r) ∙ ap (λ x. path layout scheme s x) (sym e) }
+    | is_between over ↦ record { rest = d ∷ []; joined = ap (λ xs. xs ++ d ∷ []) (path-near layout scheme s r (onto s d r ranks over.m_within) over.early) ∙ sym (path-one layout scheme s d ranks r over) }
+    | is_first k over ↦ record { rest = k ∷ d ∷ []; joined = ap (λ xs. xs ++ k ∷ d ∷ []) (path-near layout scheme s r (onto s d r ranks over.m_within) over.early) ∙ sym (path-two layout scheme s d ranks r k over) }
+    | is_second m over ↦ record { rest = d ∷ []; joined = ap (λ xs. xs ++ d ∷ []) (path-two_begin layout scheme s d ranks m r over) ∙ sym (path-two layout scheme s d ranks m r over) }
   ]
 
   -- a link of a path is the last link of the path to its end
-  pub link_ends_path : (s d a b : ℕ) → AreRanks layout s d → IsTrue (crosses (path layout scheme s d) a b) → EndsWith (path layout scheme s b) (a ∷ b ∷ [])
+  pub link_ends_path : (s d a b : ℕ) → AreRanks layout s d → IsTrue (crosses (path layout scheme s d) a b) → IsSuffix (a ∷ b ∷ []) (path layout scheme s b)
   link_ends_path s d a b ranks h = elim (crossing layout scheme s d ranks a b h) [
-    | is_whole e f g ↦ ([], ap (λ x. x ∷ b ∷ []) (sym f) ∙ ap (λ x. s ∷ x ∷ []) (sym g) ∙ sym (path-near layout scheme s d ranks e) ∙ ap (λ x. path layout scheme s x) g)
-    | into_one f over ↦ ([], ap (λ x. x ∷ b ∷ []) (sym f) ∙ sym (path-near layout scheme s b (onto s d b ranks over.m_within) over.early))
-    | out_of_one over g ↦ (s ∷ [], ap (λ x. s ∷ a ∷ x ∷ []) (sym g) ∙ sym (path-one layout scheme s d ranks a over) ∙ ap (λ x. path layout scheme s x) g)
-    | into_first k f over ↦ ([], ap (λ x. x ∷ b ∷ []) (sym f) ∙ sym (path-near layout scheme s b (onto s d b ranks over.m_within) over.early))
-    | first_to_second over ↦ (s ∷ [], sym (path-two_begin layout scheme s d ranks a b over))
-    | out_of_second m over g ↦ (s ∷ m ∷ [], ap (λ x. s ∷ m ∷ a ∷ x ∷ []) (sym g) ∙ sym (path-two layout scheme s d ranks m a over) ∙ ap (λ x. path layout scheme s x) g)
+    | is_whole e f g ↦ record { before = []; joined = ap (λ x. x ∷ b ∷ []) (sym f) ∙ ap (λ x. s ∷ x ∷ []) (sym g) ∙ sym (path-near layout scheme s d ranks e) ∙ ap (λ x. path layout scheme s x) g }
+    | into_one f over ↦ record { before = []; joined = ap (λ x. x ∷ b ∷ []) (sym f) ∙ sym (path-near layout scheme s b (onto s d b ranks over.m_within) over.early) }
+    | out_of_one over g ↦ record { before = s ∷ []; joined = ap (λ x. s ∷ a ∷ x ∷ []) (sym g) ∙ sym (path-one layout scheme s d ranks a over) ∙ ap (λ x. path layout scheme s x) g }
+    | into_first k f over ↦ record { before = []; joined = ap (λ x. x ∷ b ∷ []) (sym f) ∙ sym (path-near layout scheme s b (onto s d b ranks over.m_within) over.early) }
+    | first_to_second over ↦ record { before = s ∷ []; joined = sym (path-two_begin layout scheme s d ranks a b over) }
+    | out_of_second m over g ↦ record { before = s ∷ m ∷ []; joined = ap (λ x. s ∷ m ∷ a ∷ x ∷ []) (sym g) ∙ sym (path-two layout scheme s d ranks m a over) ∙ ap (λ x. path layout scheme s x) g }
   ]
 
   -- a rank has a rank before it on its path
@@ -128,9 +108,10 @@ module _ (layout : Shape) (scheme : Scheme) where
   -- a rank has one rank before it on all paths from a sender
   pub one_parent : (s d e a a' b : ℕ) → AreRanks layout s d → AreRanks layout s e → IsTrue (crosses (path layout scheme s d) a b) → IsTrue (crosses (path layout scheme s e) a' b) → a ≡ a'
   one_parent s d e a a' b ranks others h h' =
-      let p : EndsWith (path layout scheme s b) (a ∷ b ∷ []) = link_ends_path s d a b ranks h in
-      let q : EndsWith (path layout scheme s b) (a' ∷ b ∷ []) = link_ends_path s e a' b others h' in
-      same_ends p.0 q.0 a a' b (p.1 ∙ sym q.1)
+      let p : IsSuffix (a ∷ b ∷ []) (path layout scheme s b) = link_ends_path s d a b ranks h in
+      let q : IsSuffix (a' ∷ b ∷ []) (path layout scheme s b) = link_ends_path s e a' b others h' in
+      let both : a ∷ b ∷ [] ≡ a' ∷ b ∷ [] = suffix_same p q refl in
+      cc
 
   -- a link to the sender is on the path to itself alone
   pub root : (s d a : ℕ) → AreRanks layout s d → IsTrue (crosses (path layout scheme s d) a s) → s ≡ d

@@ -32,13 +32,6 @@ pub record IsPath (layout : Shape) (scheme : Scheme) (from to : ℕ) (ranks : Li
   pub arrives_once : ¬ IsTrue (passes between to)
   pub follows : (a b : ℕ) → IsTrue (crosses ranks a b) → b ≡ hop layout scheme a to
 
--- a list begins, or ends, with a part
-abbrev pub StartsWith : List ℕ → List ℕ → Type 0
-StartsWith whole part = (after : List ℕ) × (part ++ after ≡ whole)
-
-abbrev pub EndsWith : List ℕ → List ℕ → Type 0
-EndsWith whole part = (before : List ℕ) × (before ++ part ≡ whole)
-
 -- the ranks that next hops lead to from here, until the destination, and at most this many
 abbrev pub stops : Shape → Scheme → ℕ → ℕ → ℕ → List ℕ
 stops layout scheme zero here to = []

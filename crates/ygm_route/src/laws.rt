@@ -2,10 +2,11 @@
 //! nothing: a caller that calls it may rely on it.
 ghost use Rattle.std.specs.Prelude.{◌≡◌, ◌≢◌, ◌+◌, ◌<◌, ◌≤◌, ℕ, List, [], ◌∷◌, ◌++◌, length, nat_eq, IsTrue};
 ghost use Rattle.std.specs.List.{IsDistinct};
+ghost use Rattle.list_facts.specs.Prefix.{IsPrefix, IsSuffix};
 ghost use Rattle.ygm_route.specs.declared.scheme.Scheme.{Scheme};
 ghost use Rattle.ygm_route.specs.Hop.{hop};
 ghost use Rattle.ygm_route.specs.Layout.{AreRanks, Shape, node};
-ghost use Rattle.ygm_route.specs.Path.{crosses, EndsWith, IsPath, links, most_links, passes, path, StartsWith};
+ghost use Rattle.ygm_route.specs.Path.{crosses, IsPath, links, most_links, passes, path};
 
 /// Between two ranks there is one path, and no other: the next hops from the sender come to the destination.
 #[tactic(auto, using(crate::proofs::Only::path_is_path))]
@@ -73,7 +74,7 @@ pub fn paths_go_on_as_from_the_next_hop()
         path layout scheme from to ≡ from ∷ path layout scheme (hop layout scheme from to) to }
     ensures rest { (layout : Shape) (scheme : Scheme) (from to r : ℕ) → AreRanks layout from to →
         IsTrue (passes (path layout scheme from to) r) → r ≢ to →
-        EndsWith (path layout scheme from to) (path layout scheme r to) }
+        IsSuffix (path layout scheme r to) (path layout scheme from to) }
     ensures hop_within { (layout : Shape) (scheme : Scheme) (from to : ℕ) → AreRanks layout from to →
         hop layout scheme from to < layout.ranks }
 {}
@@ -104,7 +105,7 @@ pub fn trees_grow_link_by_link()
         IsTrue (crosses (path layout scheme root to) root b) → path layout scheme root b ≡ root ∷ b ∷ [] }
     ensures beginning { (layout : Shape) (scheme : Scheme) (root to r : ℕ) → AreRanks layout root to →
         IsTrue (passes (path layout scheme root to) r) → r ≢ root →
-        StartsWith (path layout scheme root to) (path layout scheme root r) }
+        IsPrefix (path layout scheme root r) (path layout scheme root to) }
 {}
 
 /// A rank of one's own node is one link away.

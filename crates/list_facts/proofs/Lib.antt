@@ -1,0 +1,16 @@
+pub mod Cuts
+pub mod Distinct
+pub mod Elements
+pub mod Equal
+pub mod Fields
+pub mod Filters
+pub mod Members
+pub mod Outcomes
+pub mod Places
+pub mod Prefix
+pub mod Singles
+pub mod Slices
+pub mod Steps
+pub mod Sublist
+pub mod Sums
+pub mod Tests
