@@ -3,7 +3,7 @@ use Rattle.std.specs.Prelude.{◌≡◌, ℕ, ◌+◌, ◌*◌, List, None, Some
 use Rattle.std.specs.List.{AllByRecursion}
 use Rattle.ygm_io.specs.Content.{Told}
 use Rattle.ygm_run.specs.Lines.{first_too_long, lines_of, raw_lines}
-use Rattle.ygm_run.specs.Tally.{all_lines, tally_text}
+use Rattle.ygm_run.specs.TallyText.{all_lines, tally_text}
 
 -- all of the sources tell, these bytes
 abbrev pub AreTold : List Told → List (List ℕ) → Type 0

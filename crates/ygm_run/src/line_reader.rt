@@ -85,7 +85,7 @@ pub struct LineReader {
 
 impl Model for LineReader {
     ghost use Rattle.std.specs.Prelude.{◌≡◌, false};
-    ghost use Rattle.ygm_run.specs.Pieces.{AreOpen, held_in};
+    ghost use Rattle.ygm_run.specs.Held.{AreOpen, held_in};
     ghost use Rattle.ygm_run.specs.Reading.{Reading};
 
     ghost Value = { Reading };

@@ -6,7 +6,7 @@ ghost use Rattle.ygm_run.specs.Ending.{EndsBy, FrontAppended, IsDoneIfMemory, Is
 ghost use Rattle.ygm_run.specs.Inputs.{AreRests};
 ghost use Rattle.ygm_run.specs.Job.{AreGood, AreTold, OfText, lines_of_each, most_letters};
 ghost use Rattle.ygm_run.specs.Notes.{FileIsBelow, note_text};
-ghost use Rattle.ygm_run.specs.Tally.{tally_text};
+ghost use Rattle.ygm_run.specs.TallyText.{tally_text};
 ghost use Rattle.ygm_run.specs.Words.{named, order_of, texts_of};
 
 use crate::note::{OUT_OF_MEMORY, WRITE_FAILED, note_of};

@@ -13,7 +13,7 @@ ghost use Rattle.std.specs.Prelude.{
   min,
   sum_by,
 };
-ghost use Rattle.ygm_run.specs.Tally.{
+ghost use Rattle.ygm_run.specs.TallyText.{
   AreCounts,
   IsBefore,
   IsTableOf,

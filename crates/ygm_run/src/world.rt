@@ -4,7 +4,7 @@ ghost use Rattle.ygm_route.specs.declared.scheme.Scheme.TheVariants.{Direct};
 ghost use Rattle.comm_rank.specs.declared.fault.CommFault.TheVariants.{NoMemory};
 ghost use Rattle.comm_rank.specs.Fault.{IsFullAt, NeverStopped};
 ghost use Rattle.ygm_run.specs.Carried.{AreFresh, AreReady, Carried, HasSettled, IsQuiet, LineSent, kept, sent_counts};
-ghost use Rattle.ygm_run.specs.Tally.{AreCounts, all_lines, pairs_of, tally_text};
+ghost use Rattle.ygm_run.specs.TallyText.{AreCounts, all_lines, pairs_of, tally_text};
 
 use crate::tally_text::table_of;
 use comm_rank::{Comm, CommFault, settle};

@@ -5,7 +5,7 @@ use Rattle.ygm_run.specs.Inputs.{IsFull, good_lines}
 use Rattle.ygm_run.specs.Lines.{raw_lines}
 use Rattle.ygm_run.specs.Reading.{Reading}
 use Rattle.ygm_run.specs.Turns.{to_come}
-use Rattle.ygm_run.proofs.Feeding.{fed_nothing, not_ended, fed_more, from_start, was_read, rest_none, rest_more, full_so, told_so, many_good, all_sent_of}
+use Rattle.ygm_run.proofs.Fed.Steps.{fed_nothing, not_ended, fed_more, from_start, was_read, rest_none, rest_more, full_so, told_so, many_good, all_sent_of}
 use Rattle.ygm_run.proofs.input.read_file.Goals as goal
 
 pub loop-fault-init : goal.loop-fault-init

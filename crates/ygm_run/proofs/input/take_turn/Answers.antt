@@ -1,7 +1,7 @@
 use Rattle.std.proofs.Common.{rules, ◌≡◌, ◌+◌, ℕ, List, subst, arith}
 use Rattle.std.proofs.lemmas.Grind.{common_steps}
 use Rattle.ygm_run.specs.Carried.{Carried, with_line}
-use Rattle.ygm_run.proofs.Feeding.{fed_line, fed_nothing}
+use Rattle.ygm_run.proofs.Fed.Steps.{fed_line, fed_nothing}
 use Rattle.ygm_run.proofs.input.take_turn.Goals as goal
 
 pub returns-in_ok-add_line-in-Ok-Line-clause-fed : goal.returns-in_ok-add_line-in-Ok-Line-clause-fed

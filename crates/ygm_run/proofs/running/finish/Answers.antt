@@ -1,4 +1,4 @@
-use Rattle.ygm_run.proofs.Endings.{noted_unnamed, unless_written}
+use Rattle.ygm_run.proofs.Ending.RunEnds.{noted_unnamed, unless_written}
 use Rattle.ygm_run.proofs.running.finish.Goals as goal
 
 pub returns-in-Ok-clause-nothing_written : goal.returns-in-Ok-clause-nothing_written

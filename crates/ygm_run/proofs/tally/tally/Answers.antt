@@ -4,7 +4,7 @@ use Rattle.ygm_route.specs.Layout.{Shape}
 use Rattle.ygm_run.specs.Carried.{Carried}
 use Rattle.ygm_run.specs.Job.{lines_of_each}
 use Rattle.ygm_run.specs.Lines.{lines_of}
-use Rattle.ygm_run.proofs.AllCounted.{counts_of_carried}
+use Rattle.ygm_run.proofs.Carried.AllCounted.{counts_of_carried}
 use Rattle.ygm_run.proofs.tally.tally.Goals as goal
 
 pub read_all-requires-clause-nothing_sent : goal.read_all-requires-clause-nothing_sent

@@ -4,9 +4,11 @@ use Rattle.std.proofs.lemmas.List.Elements.{All-append}
 use Rattle.std.proofs.lemmas.Slice.{pushed}
 use Rattle.std.specs.Prelude.{slice_range}
 use Rattle.std.proofs.lemmas.Grind.{common_steps}
+use Rattle.list_facts.proofs.Outcomes.{unwrapped}
+use Rattle.list_facts.proofs.Slices.{slice_range-behind, slice_range-empty, slice_range-front}
 use Rattle.ygm_run.specs.Lines.{LacksLf, StartsTooLong, text_of}
-use Rattle.ygm_run.specs.Pieces.{held_in}
-use Rattle.ygm_run.proofs.Parts.{LacksLf-front, at_end, front_within, same_line, carried_line, carried_too_long, slice_range-front, slice_range-empty, slice_range-behind}
+use Rattle.ygm_run.specs.Held.{held_in}
+use Rattle.ygm_run.proofs.Held.StartsWithLine.{LacksLf-front, front_within, same_line, carried_line, carried_too_long}
 use Rattle.ygm_run.proofs.pieces.Pieces.take_piece.Goals as goal
 
 pub returns-then-len-length-gt-MAX_LINE-clause-too_long : goal.returns-then-len-length-gt-MAX_LINE-clause-too_long
@@ -55,8 +57,8 @@ returns-clause-line c =
     let found = c.line_end-found.result in
     let some = c.is_none.ensures ∙ ap not c.if-is_none.false in
     let partial = LacksLf-front found piece c.args.count c.line_end-found.ensures.partial c.line_end-found.ensures.none in
-    let parts = at_end (λ m. piece ≡ take m piece ++ 10 ∷ drop (m + 1) piece) found c.args.count some c.line_end-found.ensures.parts in
-    let within = at_end (λ m. m < length piece) found c.args.count some c.line_end-found.ensures.within in
+    let parts = unwrapped (λ m. piece ≡ take m piece ++ 10 ∷ drop (m + 1) piece) found c.args.count some c.line_end-found.ensures.parts in
+    let within = unwrapped (λ m. m < length piece) found c.args.count some c.line_end-found.ensures.within in
     let all = length-take-le c.args.count bytes (omega arith) in
     let empty = slice_range-empty before.buffer.items before.start before.end (omega arith) in
     let grown = pushed (take n piece) refl c.unwrap.ensures c.extend_from_slice.ensures.items in

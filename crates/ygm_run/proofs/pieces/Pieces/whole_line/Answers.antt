@@ -1,7 +1,7 @@
 use Rattle.std.proofs.Common.{length, ◌∙◌, sym, arith, drop, ◌-◌}
 use Rattle.std.proofs.lemmas.List.{nil_from_length, length-take}
 use Rattle.std.proofs.lemmas.Grind.{common_steps}
-use Rattle.ygm_run.proofs.Parts.{waiting_line, nothing_carried}
+use Rattle.ygm_run.proofs.Held.StartsWithLine.{waiting_line, nothing_carried}
 use Rattle.ygm_run.proofs.pieces.Pieces.whole_line.Goals as goal
 
 pub returns-clause-line : goal.returns-clause-line

@@ -3,8 +3,8 @@ use Rattle.std.proofs.Common.{◌≡◌, ℕ, ◌+◌, ◌<◌, ◌⊎◌, List,
 use Rattle.std.proofs.lemmas.List.Sums.{sum_by-append, sum_by-cons}
 use Rattle.std.proofs.lemmas.List.Sorted.{sum_by-IsPermutation}
 use Rattle.std.proofs.lemmas.Slice.Eq.{bytes_eq-Decides}
-use Rattle.ygm_run.specs.Tally.{all_lines, times}
-use Rattle.ygm_run.proofs.Members.{Contains-here, Contains-there, Contains-cons_cases, Contains-nil}
+use Rattle.ygm_run.specs.TallyText.{all_lines, times}
+use Rattle.list_facts.proofs.Members.{Contains-here, Contains-there, Contains-cons_cases, Contains-nil}
 
 -- 1 where two items are equal
 abbrev one_if_same : List ℕ → List ℕ → ℕ

@@ -1,10 +1,9 @@
 -- Where no letter waits, what the ranks keep are the counts of all lines.
-use Rattle.std.proofs.Common.{◌≡◌, ◌≢◌, inl, inr, ℕ, zero, suc, ◌-◌, ◌^◌, ◌<◌, ◌≤◌, eqb, Bool, true, false, ◌&&◌, IsTrue, cond, take, slice_get, Some, List, [], ◌∷◌, map, length, get_or, sum_by, bytes_eq, flat_map, refl, sym, ap, subst, ◌∙◌, arith, ltb-true}
+use Rattle.std.proofs.Common.{◌≡◌, ◌≢◌, inl, inr, ℕ, ◌-◌, ◌^◌, ◌<◌, ◌≤◌, eqb, Bool, true, false, ◌&&◌, IsTrue, cond, slice_get, Some, List, [], ◌∷◌, map, length, get_or, sum_by, bytes_eq, flat_map, refl, sym, ap, subst, ◌∙◌, arith, ltb-true}
 use Rattle.std.specs.List.{AllByRecursion}
 use Rattle.std.proofs.lemmas.Bool.{eq-eqb, ne_eqb, cases_eq}
 use Rattle.std.proofs.lemmas.List.{length-map, get_or-map}
 use Rattle.std.proofs.lemmas.List.Folds.{flat_map-map}
-use Rattle.std.proofs.lemmas.List.Sums.{sum_by-cons}
 use Rattle.std.proofs.lemmas.Nat.{mod_below}
 use Rattle.std.proofs.lemmas.Option.{slice_get-get_or}
 use Rattle.msg_codec.specs.declared.letter.Letter.{Letter}
@@ -15,7 +14,9 @@ use Rattle.world_core.specs.Log.{letters_taken}
 use Rattle.world_core.specs.Modest.{IsLawful}
 use Rattle.world_core.specs.Pairs.{arrived, for_rank, is_data, is_of_pair, of_pair}
 use Rattle.world_core.specs.World.{log_of}
-use Rattle.world_core.proofs.Lists.{and_first, and_second}
+use Rattle.list_facts.proofs.Elements.{all_take}
+use Rattle.list_facts.proofs.Sums.{sum_by-map, sum_by-ones, sum_upto, sum_upto-le, sum_upto-list, sum_upto-same, sum_upto-zero}
+use Rattle.list_facts.proofs.Tests.{and_first, and_second}
 use Rattle.comm_rank.specs.Fold.{fold_from}
 use Rattle.world_core.specs.Plain.{Plain}
 use Rattle.comm_rank.specs.Rank.{Rank, fresh_rank, local_of, ran_at, ran_from}
@@ -23,13 +24,12 @@ use Rattle.comm_rank.specs.Settled.{IsRankOf}
 use Rattle.counting_set.specs.Counting.{Counts, counting_apply, AreCounted}
 use Rattle.counting_set.specs.Owner.{fnv, owner_of_key}
 use Rattle.counting_set.proofs.Counted.{adds_of_one_are_counted}
-use Rattle.counting_set.proofs.Sums.{sum_by-of}
 use Rattle.ygm_run.specs.Carried.{AreReady, Carried, IsQuiet, kept, letters_of}
-use Rattle.ygm_run.specs.Tally.{AreCounts, all_lines, times}
-use Rattle.ygm_run.proofs.Counting.{times-all_lines}
-use Rattle.ygm_run.proofs.Owned.{item_of, AddsOne, adds_of_items, letters_of-one, length-letters_of, one_if_adds, counted_in_letters}
-use Rattle.ygm_run.proofs.Senders.{IsFromBelow, letters_from, sum_upto, sum_upto-same, sum_upto-zero, sum_upto-le, sum_upto-list, sum_by-senders, all_senders}
-use Rattle.ygm_run.proofs.Shards.{AreShards, AreCounts-from_shards}
+use Rattle.ygm_run.specs.TallyText.{AreCounts, all_lines, times}
+use Rattle.ygm_run.proofs.TallyText.Times.{times-all_lines}
+use Rattle.ygm_run.proofs.Carried.LettersOf.{item_of, AddsOne, adds_of_items, letters_of-one, length-letters_of, one_if_adds, counted_in_letters}
+use Rattle.ygm_run.proofs.Carried.LettersFrom.{IsFromBelow, letters_from, sum_by-senders, all_senders}
+use Rattle.ygm_run.proofs.TallyText.Shards.{AreShards, AreCounts-from_shards}
 
 -- a letter came from a rank of the world to this one, for its handler
 record CameTo (ranks here : ℕ) (l : Letter) : Type 0 where
@@ -49,11 +49,6 @@ came_of me here (l ∷ ls) h = by_test (is_data l && eqb l.to here) refl (came_o
   by_test true is rest = (record { sender = ltb-true l.from me.layout.ranks h.0.sender; for_here = is }, rest)
   by_test false isnt rest = rest
 
-all_taken : (P : Letter → Type 0) (k : ℕ) (ls : List Letter) → AllByRecursion P ls → AllByRecursion P (take k ls)
-all_taken P zero ls h = tt
-all_taken P (suc k) [] h = tt
-all_taken P (suc k) (l ∷ ls) h = (h.0, all_taken P k ls h.1)
-
 middle : (a b c : Bool) → a ≡ true → c ≡ true → ((a && b) && c) ≡ b
 middle true true true p q = refl
 middle true false true p q = refl
@@ -67,10 +62,6 @@ pair_is_sender ranks here from (l ∷ ls) h =
     let same : is_of_pair from here l ≡ eqb l.from from =
     middle (is_data l) (eqb l.from from) (eqb l.to here) (and_first (is_data l) (eqb l.to here) h.0.for_here) (and_second (is_data l) (eqb l.to here) h.0.for_here) in
     ap (λ b. cond b (l ∷ of_pair from here ls) (of_pair from here ls)) same ∙ ap (λ w. cond (eqb l.from from) (l ∷ w) w) (pair_is_sender ranks here from ls h.1)
-
-length-sum_by : (ls : List Letter) → length ls ≡ sum_by (λ l. 1) ls
-length-sum_by [] = refl
-length-sum_by (l ∷ ls) = omega (arith, length-sum_by ls, sum_by-cons (λ l. 1) l ls)
 
 sum_of_all : (x : List ℕ) (files : List (List (List ℕ))) (ranks : ℕ) → length files ≡ ranks → sum_upto (λ s. times x (get_or files s [])) ranks ≡ times x (all_lines files)
 sum_of_all x files ranks all = ap (sum_upto (λ s. times x (get_or files s []))) (sym all) ∙ sum_upto-list (times x) [] files ∙ sym (times-all_lines x files)
@@ -107,7 +98,7 @@ module _ (files : List (List (List ℕ))) (ranks : ℕ) (comms : List (Rank Coun
       let log = log_of links.world d in
       let is = is_rank d t in
       let there_are : me.layout.ranks ≡ ranks = ap (λ (l : Shape). l.ranks) is.layout ∙ sym ready.ranks.all ∙ h.all in
-      let all = all_taken (CameTo me.layout.ranks me.here) (length (arrived me.here log) - length (for_rank me.here me.waiting)) (arrived me.here log) (came_of (local_of me log) me.here (letters_taken log) is.agrees.modest.lawful) in
+      let all = all_take (CameTo me.layout.ranks me.here) (length (arrived me.here log) - length (for_rank me.here me.waiting)) (arrived me.here log) (came_of (local_of me log) me.here (letters_taken log) is.agrees.modest.lawful) in
       subst (λ n. AllByRecursion (CameTo n d) (ran d)) there_are (subst (λ k. AllByRecursion (CameTo me.layout.ranks k) (ran d)) is.here all)
 
   ran_of : (s d : ℕ) → s < ranks → d < ranks → letters_from s (ran d) ≡ letters_of ranks s d (own s)
@@ -124,13 +115,13 @@ module _ (files : List (List (List ℕ))) (ranks : ℕ) (comms : List (Rank Coun
   few : (d : ℕ) → d < ranks → length (counted_at d) < 2 ^ 64
   few d t =
       let each : (s : ℕ) → s < ranks → sum_by (λ l. 1) (letters_from s (ran d)) ≤ 2 ^ 56 =
-      λ s f. omega (arith, length-sum_by (letters_from s (ran d)), ap length (ran_of s d f t), length-letters_of ranks s d (own s), h.few s) in
-      omega (arith, length-map (ran d) item_of, length-sum_by (ran d), sum_by-senders (λ l. 1) ranks (ran d) (below d t), sum_upto-le (λ s. sum_by (λ l. 1) (letters_from s (ran d))) (2 ^ 56) ranks each, most)
+      λ s f. omega (arith, sum_by-ones (letters_from s (ran d)), ap length (ran_of s d f t), length-letters_of ranks s d (own s), h.few s) in
+      omega (arith, length-map (ran d) item_of, sum_by-ones (ran d), sum_by-senders (λ l. 1) ranks (ran d) (below d t), sum_upto-le (λ s. sum_by (λ l. 1) (letters_from s (ran d))) (2 ^ 56) ranks each, most)
 
   -- an item was counted at its owner as often as it stands among all lines, and nowhere else
   times_at : (x : List ℕ) (d : ℕ) → d < ranks → times x (counted_at d) ≡ cond (eqb (owner_of_key x ranks) d) (times x (all_lines files)) 0
   times_at x d t =
-      sum_by-of (λ line. cond (bytes_eq x line) 1 0) item_of (ran d)
+      sum_by-map (λ line. cond (bytes_eq x line) 1 0) item_of (ran d)
       ∙ sum_by-senders (one_if_adds x) ranks (ran d) (below d t)
       ∙ sum_upto-same (λ s. sum_by (one_if_adds x) (letters_from s (ran d))) (λ s. cond (eqb (owner_of_key x ranks) d) (times x (own s)) 0) ranks
       (λ s f. ap (sum_by (one_if_adds x)) (ran_of s d f t) ∙ counted_in_letters x ranks s d (own s) (h.short s))

@@ -4,10 +4,10 @@ use Rattle.std.specs.Option.{option_map}
 use Rattle.std.proofs.lemmas.Bool.{cases_eq, cases_lt, eq-eqb, ne_eqb}
 use Rattle.std.proofs.lemmas.List.{length-map, get_or_past}
 use Rattle.std.proofs.lemmas.Option.{slice_get-map, slice_get_cases, slice_get_within, get_or_from_slice_get}
+use Rattle.list_facts.proofs.Fields.{field_at}
+use Rattle.list_facts.proofs.Places.{item_kept, item_placed, item_set}
 use Rattle.world_core.specs.Plain.{Plain}
 use Rattle.comm_rank.specs.Rank.{Rank}
-use Rattle.comm_rank.proofs.Advancing.{same_item}
-use Rattle.comm_rank.proofs.Moving.{item_kept, item_set}
 use Rattle.counting_set.specs.Counting.{Counts}
 use Rattle.ygm_io.specs.Content.{Told}
 use Rattle.ygm_run.specs.declared.status.InputFault.{InputFault}
@@ -16,8 +16,7 @@ use Rattle.ygm_run.specs.Fed.{IsSent, with_lines}
 use Rattle.ygm_run.specs.Inputs.{AllRead, AreRests, IsFull, IsFullAtRank, IsLowestFault, IsRead, IsRest}
 use Rattle.ygm_run.specs.Job.{AreTold, lines_of_each}
 use Rattle.ygm_run.specs.Lines.{lines_of}
-use Rattle.ygm_run.proofs.Carrying.{placed}
-use Rattle.ygm_run.proofs.Feeding.{same_own, rest_none}
+use Rattle.ygm_run.proofs.Fed.Steps.{same_own, rest_none}
 
 -- this is the fault of the lowest of the first ranks that has one, with its rank
 abbrev pub LowestBelow : (ℕ → Option InputFault) → ℕ → Option (ℕ × InputFault) → Type 0
@@ -65,12 +64,9 @@ with_same own rank other lines e = ap (λ b. cond b (own other ++ lines) (own ot
 with_other : (own : ℕ → List (List ℕ)) (rank other : ℕ) (lines : List (List ℕ)) → (other ≡ rank → ⊥) → with_lines own rank lines other ≡ own other
 with_other own rank other lines ne = ap (λ b. cond b (own other ++ lines) (own other)) (ne_eqb other rank ne)
 
-held_at : {X : Type 0} (left : X → Told) (start : List X) (r : ℕ) (item : X) (held : Told) → slice_get start r ≡ Some item → slice_get (map left start) r ≡ Some held → left item ≡ held
-held_at left start r item held at is = same_item (map left start) r (left item) held (slice_get-map left start r ∙ ap (option_map left) at) is
-
 -- what was left of a source at the start
 start_at : {X : Type 0} (left : X → Told) (start : List X) (r : ℕ) (held : Told) (source : X) → slice_get (map left start) r ≡ Some held → slice_get start r ≡ Some source → IsRest held (left source)
-start_at left start r held source is at = subst (λ t. IsRest t (left source)) (held_at left start r source held at is) (rest_none (left source))
+start_at left start r held source is at = subst (λ t. IsRest t (left source)) (field_at left start r source held at is) (rest_none (left source))
 
 pub read_none : {S : Type 0} (left : S → Told) (count : S → ℕ) (n : ℕ) (start : List S) (comms : List (Rank Counts)) (links : Plain) → Carried (λ _. []) n comms links → ReadSoFar left count n start start 0 comms links None
 read_none left count n start comms links c = record {
@@ -88,8 +84,8 @@ read_none left count n start comms links c = record {
 pub rests_more : {S : Type 0} (left : S → Told) (start sources : List S) (k : ℕ) (item now : S) → AreRests left (map left start) sources → slice_get start k ≡ Some item → IsRest (left item) (left now) → AreRests left (map left start) (set sources k now)
 rests_more left start sources k item now rests at rest r held source is found = elim (cases_eq r k) [
   | inl e ↦
-      let same = placed sources k r source now e found in
-      let first = held_at left start k item held at (subst (λ i. slice_get (map left start) i ≡ Some held) e is) in
+      let same = item_placed sources k r source now e found in
+      let first = field_at left start k item held at (subst (λ i. slice_get (map left start) i ≡ Some held) e is) in
       subst (λ t. IsRest t (left source)) first (subst (λ (x : _). IsRest (left item) (left x)) same rest)
   | inr ne ↦ rests r held source is (sym (item_kept sources k r now ne) ∙ found)
 ]
@@ -105,15 +101,15 @@ read_more {S} left count n start sources k s1 s2 l1 l2 lowest lowest' item now n
   above = λ r le. with_other so.own k r sent.lines (λ e. omega (arith, le, e)) ∙ so.above r (omega (arith, le));
   read = λ r held source lt is found. elim (cases_eq r k) [
     | inl e ↦
-        let same = placed sources k r source now e found in
-        let first = held_at left start k item held at (subst (λ i. slice_get (map left start) i ≡ Some held) e is) in
+        let same = item_placed sources k r source now e found in
+        let first = field_at left start k item held at (subst (λ i. slice_get (map left start) i ≡ Some held) e is) in
         subst (IsRead left count held source) (sym (at_same so.fault k r new e))
         (subst (λ t. IsRead left count t source new) first (subst (λ (x : S). IsRead left count (left item) x new) same isread))
     | inr ne ↦ subst (IsRead left count held source) (sym (at_other so.fault k r new ne)) (so.read r held source (omega (arith, lt, ne)) is (sym (item_kept sources k r now ne) ∙ found))
   ];
   lines = λ r held lt no is. elim (cases_eq r k) [
     | inl e ↦
-        let first = held_at left start k item held at (subst (λ i. slice_get (map left start) i ≡ Some held) e is) in
+        let first = field_at left start k item held at (subst (λ i. slice_get (map left start) i ≡ Some held) e is) in
         let own_is : with_lines so.own k sent.lines r ≡ sent.lines = with_same so.own k r sent.lines e ∙ ap (λ w. w ++ sent.lines) (so.above r (omega (arith, e))) in
         subst (λ (w : List (List ℕ)). IfSome held (λ bytes. w ≡ lines_of bytes)) (sym own_is)
         (subst (λ t. IfSome t (λ bytes. sent.lines ≡ lines_of bytes)) first (sent.all (sym (at_same so.fault k r new e) ∙ no)))

@@ -1,7 +1,7 @@
 -- The text of small files.
 use Rattle.std.proofs.Common.{◌≡◌, [], ◌∷◌, codes, refl}
 use Rattle.std.specs.Fmt.{digits}
-use Rattle.ygm_run.specs.Tally.{tally_text}
+use Rattle.ygm_run.specs.TallyText.{tally_text}
 
 two_files : tally_text ((codes "b" ∷ codes "a" ∷ codes "b" ∷ []) ∷ (codes "a" ∷ codes "b" ∷ []) ∷ []) ≡ codes "2\ta\n3\tb\n"
 unfolding digits

@@ -4,13 +4,13 @@ use Rattle.std.proofs.lemmas.List.{append_assoc}
 use Rattle.std.specs.Option.{option_map}
 use Rattle.ygm_io.specs.Content.{Told, TakenFrom, NothingLeft}
 use Rattle.ygm_run.specs.Lines.{lines_of, text_of, StartsTooLong}
-use Rattle.ygm_run.specs.Pieces.{StartsWithLine, AreLastLine}
+use Rattle.ygm_run.specs.Held.{StartsWithLine, AreLastLine}
 use Rattle.ygm_io.specs.Rising.{next_count}
 use Rattle.ygm_run.specs.Reading.{Reading}
 use Rattle.ygm_run.specs.Turns.{to_come, lines_to_come, FirstTaken, GaveLine, RawLineTaken, IfLine}
 use Rattle.ygm_run.specs.declared.line_reader.Got.{Got}
 use Rattle.ygm_run.specs.declared.line_reader.Got.TheVariants.{Line}
-use Rattle.ygm_run.proofs.Taken.{line_cut, text_cut}
+use Rattle.ygm_run.proofs.Fed.LinesTaken.{line_cut, text_cut}
 
 -- what was read is held
 pub to_come-read : (held piece : List ℕ) (before now : Told) → TakenFrom piece before now → to_come (held ++ piece) now ≡ to_come held before

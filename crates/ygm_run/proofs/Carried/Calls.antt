@@ -21,7 +21,7 @@ use Rattle.comm_rank.proofs.Moving.{item_kept, item_set}
 use Rattle.counting_set.specs.Counting.{Counts, counting_apply, add_letter}
 use Rattle.counting_set.specs.Owner.{owner_of_key}
 use Rattle.ygm_run.specs.Carried.{AreReady, HasSettled, LineSent, sent_counts}
-use Rattle.ygm_run.proofs.Carrying.{SentLine, caller_quiet, carried_line, carried_settled, counts_none, placed, ready_settled, same_counts, stays_quiet}
+use Rattle.ygm_run.proofs.Carried.Preserved.{SentLine, caller_quiet, carried_line, carried_settled, counts_none, placed, ready_settled, same_counts, stays_quiet}
 
 -- ---- a line is sent
 

@@ -6,10 +6,6 @@ use Rattle.std.proofs.lemmas.Bool.{cases_lt, le-ltb, lt-ltb}
 use Rattle.ygm_run.specs.Inputs.{good_lines}
 use Rattle.ygm_run.specs.Lines.{max_line, first_too_long}
 
-pub both_short : (xs ys : List (List ℕ)) → AllByRecursion (λ raw. length raw ≤ max_line) xs → AllByRecursion (λ raw. length raw ≤ max_line) ys → AllByRecursion (λ raw. length raw ≤ max_line) (xs ++ ys)
-both_short [] ys x y = y
-both_short (r ∷ xs) ys x y = (x.0, both_short xs ys x.1 y)
-
 -- of short lines none is too long
 pub none_too_long_of : (raws : List (List ℕ)) → AllByRecursion (λ raw. length raw ≤ max_line) raws → first_too_long raws ≡ None
 none_too_long_of [] short = refl

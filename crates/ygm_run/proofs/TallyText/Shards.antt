@@ -1,12 +1,9 @@
 -- The counts of all items, from shards that each hold the counts of the items that they own.
-use Rattle.std.proofs.Common.{◌≡◌, ◌≢◌, ◌↔◌, ℕ, suc, ◌+◌, ◌-◌, ◌<◌, ◌≤◌, List, [], ◌∷◌, ◌++◌, length, get_or, AllPairs, Contains, flat_map, refl, sym, ap, subst, arith, ⊎_elim, length-append}
-use Rattle.std.proofs.lemmas.Bool.{cases_lt}
-use Rattle.std.proofs.lemmas.List.{get_or_append_left, get_or-append_right}
-use Rattle.std.proofs.lemmas.List.Elements.{Contains-get_or}
-use Rattle.ygm_run.specs.Tally.{AreCounts, times}
-use Rattle.ygm_run.proofs.Counting.{Contains-from_times}
-use Rattle.ygm_run.proofs.Members.{Contains-joined, from_joined}
-use Rattle.ygm_run.proofs.Table.{Pair}
+use Rattle.std.proofs.Common.{◌≡◌, ◌≢◌, ◌↔◌, ℕ, suc, ◌+◌, ◌<◌, List, [], ◌∷◌, length, get_or, AllPairs, Contains, flat_map, refl, ap, subst, arith}
+use Rattle.ygm_run.specs.TallyText.{AreCounts, times}
+use Rattle.ygm_run.proofs.TallyText.Times.{Contains-from_times}
+use Rattle.list_facts.proofs.Members.{AllPairs-append, Contains-joined, from_joined}
+use Rattle.ygm_run.proofs.TallyText.Table.{Pair}
 
 -- in each shard no item stands twice, and just the items that it owns stand there with their counts
 pub record AreShards (owner : List ℕ → ℕ) (shards : List (List Pair)) (lines : List (List ℕ)) : Type 0 where
@@ -14,23 +11,6 @@ pub record AreShards (owner : List ℕ → ℕ) (shards : List (List Pair)) (lin
   pub exact : (d : ℕ) → d < length shards → (item : List ℕ) (count : ℕ) → Contains (get_or shards d []) (item, count) ↔ ((owner item ≡ d) × (count ≡ times item lines) × (0 < count))
   -- each line has an owner
   pub owned : (item : List ℕ) → Contains lines item → owner item < length shards
-
-module _ {X : Type 0} (R : X → X → Type 0) (xs ys : List X) where
-  -- pairs in two lists, and from one to the other
-  pub AllPairs-append : AllPairs R xs → AllPairs R ys → ((x y : X) → Contains xs x → Contains ys y → R x y) → AllPairs R (xs ++ ys)
-  AllPairs-append left right across i j d less within =
-      let whole = length-append xs ys in
-      let far : length xs ≤ j → get_or (xs ++ ys) j d ≡ get_or ys (j - length xs) d = λ h. get_or-append_right xs ys (length xs) j d refl h in
-      ⊎_elim
-      (λ j_left. let e = get_or_append_left xs ys d i (omega arith) in let f = get_or_append_left xs ys d j j_left in
-      subst (λ x. R x (get_or (xs ++ ys) j d)) (sym e) (subst (R (get_or xs i d)) (sym f) (left i j d less j_left)))
-      (λ j_right. ⊎_elim
-      (λ i_left. let e = get_or_append_left xs ys d i i_left in
-      subst (λ x. R x (get_or (xs ++ ys) j d)) (sym e) (subst (R (get_or xs i d)) (sym (far j_right)) (across (get_or xs i d) (get_or ys (j - length xs) d) (Contains-get_or xs i d i_left) (Contains-get_or ys (j - length xs) d (omega arith)))))
-      (λ i_right. let e = get_or-append_right xs ys (length xs) i d refl i_right in
-      subst (λ x. R x (get_or (xs ++ ys) j d)) (sym e) (subst (R (get_or ys (i - length xs) d)) (sym (far j_right)) (right (i - length xs) (j - length xs) d (omega arith) (omega arith))))
-      (cases_lt i (length xs)))
-      (cases_lt j (length xs))
 
 -- shards that own from the number `from` on
 once_in_all : (owner : List ℕ → ℕ) (from : ℕ) (shards : List (List Pair)) → ((d : ℕ) → d < length shards → AllPairs (λ pair later. pair.0 ≢ later.0) (get_or shards d []))

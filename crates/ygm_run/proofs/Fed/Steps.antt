@@ -3,6 +3,7 @@ use Rattle.std.proofs.Common.{◌≡◌, ℕ, ◌+◌, ◌<◌, ◌≤◌, ◌^�
 use Rattle.std.specs.List.{AllByRecursion}
 use Rattle.std.proofs.lemmas.Bool.{false≢true}
 use Rattle.std.proofs.lemmas.List.{append-nil, map-append}
+use Rattle.list_facts.proofs.Elements.{all_append}
 use Rattle.ygm_io.specs.Content.{Told, TakenFrom, NothingLeft}
 use Rattle.world_core.specs.Plain.{Plain}
 use Rattle.comm_rank.specs.Rank.{Rank}
@@ -18,8 +19,8 @@ use Rattle.ygm_run.specs.Inputs.{IsRead, IsRest, NothingBehind, good_lines}
 use Rattle.ygm_run.specs.Lines.{max_line, ended_lines, lines_of, raw_lines, text_of, first_too_long, StartsTooLong}
 use Rattle.ygm_run.specs.Reading.{Reading}
 use Rattle.ygm_run.specs.Turns.{to_come, RawLineTaken}
-use Rattle.ygm_run.proofs.GoodLines.{both_short, few_good, good_before, good_below, later_too_long, none_too_long_of}
-use Rattle.ygm_run.proofs.Taken.{front_read, line_cut, lines_more, lines_none, taken_more, taken_none, whole_lines}
+use Rattle.ygm_run.proofs.Inputs.GoodLines.{few_good, good_before, good_below, later_too_long, none_too_long_of}
+use Rattle.ygm_run.proofs.Fed.LinesTaken.{front_read, line_cut, lines_more, lines_none, taken_more, taken_none, whole_lines}
 
 -- what is on its way depends on each rank's lines alone
 pub same_own : (own other : ℕ → List (List ℕ)) (n : ℕ) (comms : List (Rank Counts)) (links : Plain) → ((r : ℕ) → own r ≡ other r) → Carried own n comms links → Carried other n comms links
@@ -68,7 +69,7 @@ fed_more n rank s0 s1 s2 l0 l1 l2 r0 r1 r2 t0 t1 t2 p q = record {
       (λ r. cond_more (eqb r rank) (own r) (map text_of p.raws) (map text_of q.raws) ∙ ap (λ w. cond (eqb r rank) (own r ++ w) (own r)) (sym (map-append text_of p.raws q.raws)))
       (q.carried (with_lines own rank (map text_of p.raws)) (p.carried own c));
   taken = lines_more p.raws q.raws (to_come r0.held t0) (to_come r1.held t1) (to_come r2.held t2) p.taken q.taken;
-  short = both_short p.raws q.raws p.short q.short;
+  short = all_append (λ raw. length raw ≤ max_line) p.raws q.raws p.short q.short;
   given = omega (arith, p.given, q.given, length-append p.raws q.raws);
 }
 
@@ -99,7 +100,7 @@ many_good raws before now short taken (text, rest, line) = of before rest (lines
   of None rest all = tt
   of (Some bytes) None all = absurd (let e = all.taken in cc)
   of (Some bytes) (Some later) all =
-      let good = good_before (raws ++ line.raw ∷ []) (raw_lines later) (both_short raws (line.raw ∷ []) short (line.short, tt)) in
+      let good = good_before (raws ++ line.raw ∷ []) (raw_lines later) (all_append (λ raw. length raw ≤ max_line) raws (line.raw ∷ []) short (line.short, tt)) in
       omega (arith, good, length-append raws (line.raw ∷ []), ap (λ w. length (good_lines w)) (whole_lines (raws ++ line.raw ∷ []) bytes later all))
 
 pub told_so : (P Q : List ℕ → Type 0) (left : Told) → ((bytes : List ℕ) → P bytes → Q bytes) → IfSome left P → IfSome left Q

@@ -16,16 +16,16 @@ use Rattle.ygm_run.specs.declared.tally.JobFault.TheVariants.{Input as JobInput,
 use Rattle.ygm_run.specs.declared.words.UsageKind.{UsageKind}
 use Rattle.ygm_run.specs.Ending.{EndsBy, IsDoneIfMemory, IsFirstUnopened, IsNoted, JobEnds, OnDone, Opened, RunEnds, StopsBy, UnlessNoMemory, UnlessWritten, IsFaultOf, status_of}
 use Rattle.comm_rank.specs.Fault.{IfCountFull}
-use Rattle.comm_rank.proofs.Advancing.{same_item}
+use Rattle.list_facts.proofs.Places.{same_item}
 use Rattle.ygm_run.specs.Inputs.{AllRead, AreRests, IsFullAtRank, IsLowestFault, IsRead, IsRest, good_lines}
 use Rattle.ygm_run.specs.Job.{AreGood, AreTold, lines_of_each, most_letters}
 use Rattle.ygm_run.specs.Lines.{first_too_long, lines_of, raw_lines, text_of}
 use Rattle.ygm_run.specs.Notes.{note_text}
-use Rattle.ygm_run.specs.Tally.{all_lines}
+use Rattle.ygm_run.specs.TallyText.{all_lines}
 use Rattle.ygm_run.specs.Words.{named}
-use Rattle.ygm_run.proofs.Feeding.{rest_none}
-use Rattle.ygm_run.proofs.GoodLines.{few_good}
-use Rattle.world_core.proofs.Steps.{taken_more}
+use Rattle.ygm_run.proofs.Fed.Steps.{rest_none}
+use Rattle.ygm_run.proofs.Inputs.GoodLines.{few_good}
+use Rattle.list_facts.proofs.Steps.{taken_more}
 
 -- a rank's full count is the job's
 pub stops_full : (full : ℕ → ℕ → Type 0) (input : ℕ → InputFault → Type 0) (rank : ℕ) (fault : CommFault) (P : ℕ → Type 0) → ((limit : ℕ) → P limit → full rank limit) → IfCountFull fault P

@@ -1,5 +1,5 @@
 -- The text of counted items, in byte order, is that of the lines that they count.
-use Rattle.std.proofs.Common.{◌≡◌, ◌≢◌, ◌↔◌, ℕ, ◌+◌, ◌<◌, List, [], ◌∷◌, ◌++◌, map, length, get_or, AllPairs, Contains, IsPermutation, IsSorted, flat_map, bytes_eq, Bool, true, false, Ordering, Less, Equal, Greater, nat_cmp, is_lt, refl, sym, ap, ap₂, ◌∙◌, subst, arith}
+use Rattle.std.proofs.Common.{◌≡◌, ◌≢◌, ◌↔◌, ℕ, ◌+◌, ◌<◌, List, [], ◌∷◌, ◌++◌, map, length, get_or, AllPairs, Contains, IsPermutation, IsSorted, flat_map, bytes_eq, Bool, false, Ordering, Less, Equal, Greater, nat_cmp, is_lt, refl, sym, ap, ap₂, ◌∙◌, subst, arith}
 use Rattle.std.specs.List.{All, IsDistinct}
 use Rattle.std.specs.Ordering.{ordering_then, ordering_reverse}
 use Rattle.std.proofs.lemmas.Cmp.{nat_list_cmp_total, nat_list_eq_equiv}
@@ -9,12 +9,12 @@ use Rattle.std.proofs.lemmas.List.Folds.{flat_map-map}
 use Rattle.std.proofs.lemmas.List.Sorted.{IsPermutation-sym, IsPermutation-map, Contains-permutation}
 use Rattle.std.proofs.lemmas.Map.Keys.{IsDistinct-from_apart, apart_from_distinct, IsDistinct-IsPermutation, sorted_from_all_adjacent}
 use Rattle.std.proofs.lemmas.Map.Lookups.{exact_bytes}
-use Rattle.std.proofs.lemmas.Slice.Eq.{bytes_eq-Decides}
 use Rattle.std.specs.Borrow.{Bor}
-use Rattle.ygm_run.specs.Tally.{AreCounts, IsBefore, IsTableOf, all_lines, byte_order, distinct_items, pair_order, pairs_of, table_with, tally_row, tally_rows, tally_text, times}
-use Rattle.ygm_run.proofs.Counting.{Contains-from_times, times_from_Contains, times-IsPermutation}
-use Rattle.ygm_run.proofs.InOrder.{Rises, same_items, Rises-distinct_items, Contains-distinct_items}
-use Rattle.ygm_run.proofs.Members.{Contains-map, from_map}
+use Rattle.ygm_run.specs.TallyText.{AreCounts, IsBefore, IsTableOf, all_lines, byte_order, distinct_items, pair_order, pairs_of, table_with, tally_row, tally_rows, tally_text, times}
+use Rattle.ygm_run.proofs.TallyText.Times.{Contains-from_times, times_from_Contains, times-IsPermutation}
+use Rattle.ygm_run.proofs.TallyText.DistinctItems.{Rises, same_items, Rises-distinct_items, Contains-distinct_items}
+use Rattle.list_facts.proofs.Equal.{bytes_eq-differ, bytes_eq-other}
+use Rattle.list_facts.proofs.Members.{Contains-map, from_map}
 
 abbrev pub Pair : Type 0
 Pair = List ℕ × ℕ
@@ -27,19 +27,12 @@ items_of counted = map (λ pair. pair.0) counted
 same_pair_item : Pair → Pair → Bool
 same_pair_item pair other = bytes_eq pair.0 other.0
 
-told_apart : (a b : List ℕ) (same : Bool) → bytes_eq a b ≡ same → a ≢ b → same ≡ false
-told_apart a b true e other = absurd (other ((bytes_eq-Decides a b).0 e))
-told_apart a b false e other = refl
-
-differ : (a b : List ℕ) → bytes_eq a b ≡ false → a ≢ b
-differ a b other is = let same = (bytes_eq-Decides a b).1 is in cc
-
 once_in_other_order : (counted sorted : List Pair) → IsPermutation counted sorted → AllPairs (λ pair later. pair.0 ≢ later.0) counted → AllPairs (λ pair later. pair.0 ≢ later.0) sorted
 unfolding same_pair_item
 once_in_other_order counted sorted moved once i j d less within =
-    let apart : IsDistinct same_pair_item counted = IsDistinct-from_apart same_pair_item counted (λ a b e h k. told_apart (get_or counted a e).0 (get_or counted b e).0 _ refl (once a b e h k)) in
+    let apart : IsDistinct same_pair_item counted = IsDistinct-from_apart same_pair_item counted (λ a b e h k. bytes_eq-other (get_or counted a e).0 (get_or counted b e).0 (once a b e h k)) in
     let still : IsDistinct same_pair_item sorted = IsDistinct-IsPermutation same_pair_item (λ p q. nat_list_eq_equiv.symm p.0 q.0) counted sorted moved apart in
-    differ _ _ (apart_from_distinct same_pair_item sorted i j d still less within)
+    bytes_eq-differ _ _ (apart_from_distinct same_pair_item sorted i j d still less within)
 
 pub AreCounts-permutation : (counted sorted : List Pair) (lines : List (List ℕ)) → IsPermutation counted sorted → AreCounts counted lines → AreCounts sorted lines
 AreCounts-permutation counted sorted lines moved h = record {

@@ -6,11 +6,12 @@ use Rattle.std.proofs.lemmas.List.Sums.{sum_by-cons}
 use Rattle.msg_codec.specs.declared.letter.Letter.{Letter}
 use Rattle.counting_set.specs.Counting.{adds, add_letter}
 use Rattle.counting_set.specs.Owner.{owner_of_key}
-use Rattle.counting_set.proofs.Adding.{bytes_eq-other, cases_same}
+use Rattle.list_facts.proofs.Equal.{bytes_eq-other, cases_same}
+use Rattle.list_facts.proofs.Filters.{filter_fewer}
 use Rattle.counting_set.proofs.Sums.{add_letter_adds}
 use Rattle.ygm_run.specs.Carried.{letters_of}
-use Rattle.ygm_run.specs.Tally.{times}
-use Rattle.ygm_run.proofs.Counting.{times-cons}
+use Rattle.ygm_run.specs.TallyText.{times}
+use Rattle.ygm_run.proofs.TallyText.Times.{times-cons}
 
 abbrev pub item_in : Option (List ℕ × ℕ) → List ℕ
 item_in None = []
@@ -50,18 +51,10 @@ letters_of-one ranks from to (line ∷ lines) short =
     one_more from to line (filter (λ y. eqb (owner_of_key y ranks) to) lines) (eqb (owner_of_key line ranks) to) short.0 (letters_of-one ranks from to lines short.1)
 
 -- there are no more letters than lines
-fewer : (b : Bool) (line : List ℕ) (lines : List (List ℕ)) (most : ℕ) → length lines ≤ most → length (cond b (line ∷ lines) lines) ≤ most + 1
-fewer true line lines most h = omega (arith, h)
-fewer false line lines most h = omega (arith, h)
-
-pub filter-fewer : (p : List ℕ → Bool) (lines : List (List ℕ)) → length (filter p lines) ≤ length lines
-filter-fewer p [] = omega arith
-filter-fewer p (line ∷ lines) = omega (arith, fewer (p line) line (filter p lines) (length lines) (filter-fewer p lines))
-
 pub length-letters_of : (ranks from to : ℕ) (lines : List (List ℕ)) → length (letters_of ranks from to lines) ≤ length lines
 length-letters_of ranks from to lines =
     let kept = filter (λ y. eqb (owner_of_key y ranks) to) lines in
-    omega (arith, length-map kept (add_letter to from), filter-fewer (λ y. eqb (owner_of_key y ranks) to) lines)
+    omega (arith, length-map kept (add_letter to from), filter_fewer (λ y. eqb (owner_of_key y ranks) to) lines)
 
 -- 1 where a letter adds that item
 abbrev pub one_if_adds : List ℕ → Letter → ℕ

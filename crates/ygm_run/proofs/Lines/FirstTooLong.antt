@@ -6,7 +6,7 @@ use Rattle.std.proofs.lemmas.Bool.{cases_lt, le-ltb, lt-ltb}
 use Rattle.std.proofs.lemmas.List.Elements.{All-cons, All-from_recursion, All-nil, recursion_from_All}
 use Rattle.ygm_run.specs.Inputs.{good_lines}
 use Rattle.ygm_run.specs.Lines.{AreShort, IsFirstTooLong, first_too_long, max_line}
-use Rattle.ygm_run.proofs.GoodLines.{later_too_long, none_too_long_of}
+use Rattle.ygm_run.proofs.Inputs.GoodLines.{later_too_long, none_too_long_of}
 
 short_of : (raws : List (List ℕ)) → AreShort raws → AllByRecursion (λ raw. length raw ≤ max_line) raws
 short_of raws short = recursion_from_All (λ raw. length raw ≤ max_line) raws short

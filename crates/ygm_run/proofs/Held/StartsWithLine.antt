@@ -1,32 +1,12 @@
 -- The parts of the bytes that are held.
-use Rattle.std.proofs.Common.{◌≡◌, ◌≢◌, zero, suc, true, is_some, ◌+◌, ◌-◌, ◌<◌, ◌≤◌, ℕ, List, [], ◌∷◌, ◌++◌, length, length-append, take, drop, Option, None, Some, IfSome, IfNone, unwrap_or, refl, ap, subst, ◌∙◌, sym, arith}
-use Rattle.std.proofs.lemmas.List.{drop-take, drop-drop, append_assoc, length-take, length-take-le, take-append-drop}
+use Rattle.std.proofs.Common.{◌≡◌, ◌≢◌, zero, suc, ◌+◌, ◌-◌, ◌<◌, ◌≤◌, ℕ, List, [], ◌∷◌, ◌++◌, length, length-append, take, drop, Option, None, Some, IfSome, IfNone, unwrap_or, refl, ap, subst, ◌∙◌, sym, arith}
+use Rattle.std.proofs.lemmas.List.{append_assoc, length-take, length-take-le, take-append-drop}
 use Rattle.std.proofs.lemmas.List.Elements.{All-append, All-take}
-use Rattle.std.proofs.lemmas.Bool.{false≢true}
 use Rattle.std.specs.Prelude.{slice_range}
+use Rattle.list_facts.proofs.Slices.{drop-slice_range}
 use Rattle.ygm_run.specs.Lines.{LacksLf, StartsTooLong, text_of, max_line}
-use Rattle.ygm_run.specs.Pieces.{StartsWithLine}
-use Rattle.ygm_run.proofs.Cuts.{starts_too_long}
-
--- what waits once n bytes more are given
-pub drop-slice_range : (n start end : ℕ) (buffer : List ℕ) → n ≤ end - start → drop n (slice_range buffer start end) ≡ slice_range buffer (start + n) end
-drop-slice_range n start end buffer h =
-    let e : end - start ≡ n + (end - (start + n)) = omega arith in
-    ap (λ m. drop n (take m (drop start buffer))) e
-    ∙ drop-take n (end - (start + n)) (drop start buffer)
-    ∙ ap (take (end - (start + n))) (drop-drop n start buffer)
-
--- nothing waits where the ends are one
-pub slice_range-empty : (buffer : List ℕ) (start end : ℕ) → end ≤ start → slice_range buffer start end ≡ []
-slice_range-empty buffer start end h =
-    let e : end - start ≡ 0 = omega arith in
-    ap (λ n. take n (drop start buffer)) e
-
--- from the front
-pub slice_range-front : (buffer : List ℕ) (start end : ℕ) → start ≡ 0 → slice_range buffer start end ≡ take end buffer
-slice_range-front buffer start end z =
-    let e : end - 0 ≡ end = omega arith in
-    ap (λ from. slice_range buffer from end) z ∙ ap (λ n. take n buffer) e
+use Rattle.ygm_run.specs.Held.{StartsWithLine}
+use Rattle.ygm_run.proofs.Lines.RawLines.{starts_too_long}
 
 -- no line ends before the first LF
 pub LacksLf-front : (found : Option ℕ) (piece : List ℕ) (count : ℕ) → IfSome found (λ end. LacksLf (take end piece)) → IfNone found (LacksLf piece) → LacksLf (take (unwrap_or found count) piece)
@@ -76,17 +56,6 @@ same_line bytes bytes' text held held' b h line = record {
   short = line.short;
   text_is = line.text_is;
 }
-
--- what waits behind the first n bytes of a piece
-pub slice_range-behind : (n count : ℕ) (buffer : List ℕ) → n ≤ count → slice_range buffer n count ≡ drop n (take count buffer)
-slice_range-behind n count buffer h =
-    let e : n + (count - n) ≡ count = omega arith in
-    sym (drop-take n (count - n) buffer) ∙ ap (λ m. drop n (take m buffer)) e
-
--- where there is a line's end, it is the length of what stands before it
-pub at_end : (P : ℕ → Type 0) (found : Option ℕ) (count : ℕ) → is_some found ≡ true → IfSome found P → P (unwrap_or found count)
-at_end P None count is h = absurd (false≢true is)
-at_end P (Some end) count is h = h
 
 pub front_within : (found : Option ℕ) (count most : ℕ) → count ≤ most → IfSome found (λ end. end < most) → unwrap_or found count ≤ most
 front_within None count most h some = h

@@ -5,7 +5,7 @@ use Rattle.std.proofs.lemmas.Option.{slice_get-get_or}
 use Rattle.std.specs.List.{slice_get}
 use Rattle.std.specs.Option.{option_eq}
 use Rattle.ygm_run.specs.Lines.{text_of, max_line}
-use Rattle.ygm_run.specs.Pieces.{StartsWithLine}
+use Rattle.ygm_run.specs.Held.{StartsWithLine}
 
 put_before : (x last : ℕ) (b : Bool) (xs : List ℕ) → x ∷ cond b xs (xs ++ last ∷ []) ≡ cond b (x ∷ xs) (x ∷ xs ++ last ∷ [])
 put_before x last true xs = refl

@@ -8,8 +8,8 @@ use Rattle.std.proofs.lemmas.List.Elements.{All-from_recursion, recursion_from_A
 use Rattle.std.proofs.lemmas.Map.Keys.{sorted_head, sorted_tail, sorted_from_all_adjacent, Less-from_sorted}
 use Rattle.std.proofs.lemmas.Map.Lookups.{exact_bytes}
 use Rattle.std.proofs.lemmas.Map.Views.{All-insert_key}
-use Rattle.ygm_run.specs.Tally.{byte_order, IsBefore, distinct_items}
-use Rattle.ygm_run.proofs.Members.{Contains-here, Contains-there, Contains-cons_cases, Contains-nil}
+use Rattle.ygm_run.specs.TallyText.{byte_order, IsBefore, distinct_items}
+use Rattle.list_facts.proofs.Members.{Contains-here, Contains-there, Contains-cons_cases, Contains-nil}
 
 -- each item stands before those after it
 abbrev pub Rises : List (List ℕ) → Type 0

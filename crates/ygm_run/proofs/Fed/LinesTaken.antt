@@ -3,12 +3,13 @@ use Rattle.std.proofs.Common.{◌≡◌, ℕ, ◌≤◌, List, [], ◌∷◌, �
 use Rattle.std.specs.Option.{option_map}
 use Rattle.std.specs.List.{AllByRecursion}
 use Rattle.std.proofs.lemmas.List.{append-nil}
+use Rattle.list_facts.proofs.Elements.{all_append}
 use Rattle.ygm_io.specs.Content.{Told, TakenFrom, NothingLeft}
 use Rattle.ygm_run.specs.Fed.{LinesTaken}
 use Rattle.ygm_run.specs.Lines.{LacksLf, ended_lines, first_too_long, lines_of, max_line, raw_lines, text_of}
 use Rattle.ygm_run.specs.Turns.{CutOff, to_come}
-use Rattle.ygm_run.proofs.Cuts.{raw_lines-at_lf, raw_lines-at_end, ended_are_lines, ended_lines-append, ended_lines-none}
-use Rattle.ygm_run.proofs.GoodLines.{both_short, none_too_long_of}
+use Rattle.ygm_run.proofs.Lines.RawLines.{raw_lines-at_lf, raw_lines-at_end, ended_are_lines, ended_lines-append, ended_lines-none}
+use Rattle.ygm_run.proofs.Inputs.GoodLines.{none_too_long_of}
 
 pub taken_none : (left : Told) → TakenFrom [] left left
 taken_none None = refl
@@ -81,6 +82,6 @@ front_read raws part piece held before (Some rest) is h fits short t =
           ∙ ap (λ w. Some (t.given ++ (w ++ rest))) is
           ∙ ap Some (sym (append_assoc t.given (part ++ piece) rest) ∙ ap (λ w. w ++ rest) (sym (append_assoc t.given part piece))),
       ap first_too_long (t.lines part (piece ++ rest) (ap (λ w. Some (w ++ rest)) is ∙ ap Some (append_assoc part piece rest)))
-          ∙ none_too_long_of (raws ++ raw_lines part) (both_short raws (raw_lines part) short (part_short part h fits)),
+          ∙ none_too_long_of (raws ++ raw_lines part) (all_append (λ raw. length raw ≤ max_line) raws (raw_lines part) short (part_short part h fits)),
       omega (arith, ended_lines-append t.given part, ended_lines-none part h, ended_are_lines t.given, ap length given),
     )
