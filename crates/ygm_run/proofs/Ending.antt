@@ -1,1 +1,2 @@
+pub mod JobStops
 pub mod RunEnds

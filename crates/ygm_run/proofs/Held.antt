@@ -1,1 +1,2 @@
+pub mod IsTooLong
 pub mod StartsWithLine

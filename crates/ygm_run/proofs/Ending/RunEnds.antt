@@ -5,8 +5,6 @@ use Rattle.std.proofs.lemmas.List.{length-map, map-append}
 use Rattle.std.proofs.lemmas.List.Folds.{length-flat_map-take}
 use Rattle.std.proofs.lemmas.Option.{slice_get-map, slice_get_cases, slice_get_within, get_or_from_slice_get}
 use Rattle.ygm_io.specs.Content.{Told, NothingLeft}
-use Rattle.comm_rank.specs.declared.fault.CommFault.{CommFault}
-use Rattle.comm_rank.specs.declared.fault.CommFault.TheVariants.{CountFull as CommFull, NoMemory as CommNoMemory, Stopped as CommStopped}
 use Rattle.ygm_run.specs.declared.status.InputFault.{InputFault}
 use Rattle.ygm_run.specs.declared.status.InputFault.TheVariants.{Read, Bad}
 use Rattle.ygm_run.specs.declared.status.Status.{Status}
@@ -14,8 +12,7 @@ use Rattle.ygm_run.specs.declared.status.Status.TheVariants.{Done, Usage, OpenFa
 use Rattle.ygm_run.specs.declared.tally.JobFault.{JobFault}
 use Rattle.ygm_run.specs.declared.tally.JobFault.TheVariants.{Input as JobInput, CountFull as JobFull, NoMemory as JobNoMemory}
 use Rattle.ygm_run.specs.declared.words.UsageKind.{UsageKind}
-use Rattle.ygm_run.specs.Ending.{EndsBy, IsDoneIfMemory, IsFirstUnopened, IsNoted, JobEnds, OnDone, Opened, RunEnds, StopsBy, UnlessNoMemory, UnlessWritten, IsFaultOf, status_of}
-use Rattle.comm_rank.specs.Fault.{IfCountFull}
+use Rattle.ygm_run.specs.Ending.{EndsBy, IsDoneIfMemory, IsFirstUnopened, IsNoted, JobEnds, OnDone, Opened, RunEnds, UnlessNoMemory, UnlessWritten, status_of}
 use Rattle.list_facts.proofs.Places.{same_item}
 use Rattle.ygm_run.specs.Inputs.{AllRead, AreRests, IsFullAtRank, IsLowestFault, IsRead, IsRest, good_lines}
 use Rattle.ygm_run.specs.Job.{AreGood, AreTold, lines_of_each, most_letters}
@@ -23,16 +20,9 @@ use Rattle.ygm_run.specs.Lines.{first_too_long, lines_of, raw_lines, text_of}
 use Rattle.ygm_run.specs.Notes.{note_text}
 use Rattle.ygm_run.specs.TallyText.{all_lines}
 use Rattle.ygm_run.specs.Words.{named}
-use Rattle.ygm_run.proofs.Fed.Steps.{rest_none}
+use Rattle.ygm_run.proofs.Inputs.IsRest.{rest_none}
 use Rattle.ygm_run.proofs.Inputs.GoodLines.{few_good}
 use Rattle.list_facts.proofs.Steps.{taken_more}
-
--- a rank's full count is the job's
-pub stops_full : (full : ℕ → ℕ → Type 0) (input : ℕ → InputFault → Type 0) (rank : ℕ) (fault : CommFault) (P : ℕ → Type 0) → ((limit : ℕ) → P limit → full rank limit) → IfCountFull fault P
-    → (found : JobFault) → IsFaultOf rank fault found → StopsBy full input found
-stops_full full input rank (CommFull at) P f p found is = subst (StopsBy full input) (sym is) (f at p)
-stops_full full input rank CommNoMemory P f p found is = subst (StopsBy full input) (sym is) tt
-stops_full full input rank CommStopped P f p found is = absurd is
 
 note_unnamed : (fault : JobFault) (told : Status) (names others : List (List ℕ)) → UnlessNoMemory told (told ≡ status_of fault) → note_text told names ≡ note_text told others
 note_unnamed fault Done names others same = refl

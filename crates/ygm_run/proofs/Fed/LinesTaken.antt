@@ -1,23 +1,20 @@
 -- Lines that were cut off the front of what was to come.
-use Rattle.std.proofs.Common.{◌≡◌, ℕ, ◌≤◌, List, [], ◌∷◌, ◌++◌, Some, None, length, map, refl, sym, ap, ◌∙◌, subst, arith, append_assoc, inl, inr}
+use Rattle.std.proofs.Common.{◌≡◌, ℕ, ◌≤◌, List, [], ◌∷◌, ◌++◌, Some, None, length, map, refl, sym, ap, ◌∙◌, arith, append_assoc, inl, inr, ◌+◌, Option, IfSome}
 use Rattle.std.specs.Option.{option_map}
 use Rattle.std.specs.List.{AllByRecursion}
 use Rattle.std.proofs.lemmas.List.{append-nil}
+use Rattle.std.proofs.lemmas.Option.{IfSome_then}
 use Rattle.list_facts.proofs.Elements.{all_append}
 use Rattle.ygm_io.specs.Content.{Told, TakenFrom, NothingLeft}
-use Rattle.ygm_run.specs.Fed.{LinesTaken}
-use Rattle.ygm_run.specs.Lines.{LacksLf, ended_lines, first_too_long, lines_of, max_line, raw_lines, text_of}
+use Rattle.ygm_run.specs.Fed.{LinesTaken, EndedWith}
+use Rattle.ygm_run.specs.Lines.{LacksLf, ended_lines, first_too_long, lines_of, max_line, raw_lines, text_of, StartsTooLong}
 use Rattle.ygm_run.specs.Turns.{CutOff, to_come}
 use Rattle.ygm_run.proofs.Lines.RawLines.{raw_lines-at_lf, raw_lines-at_end, ended_are_lines, ended_lines-append, ended_lines-none}
-use Rattle.ygm_run.proofs.Inputs.GoodLines.{none_too_long_of}
-
-pub taken_none : (left : Told) → TakenFrom [] left left
-taken_none None = refl
-taken_none (Some bytes) = refl
-
-pub taken_more : (f g : List ℕ) (a b c : Told) → TakenFrom f a b → TakenFrom g b c → TakenFrom (f ++ g) a c
-taken_more f g a b None p q = p ∙ ap (option_map (λ rest. f ++ rest)) q
-taken_more f g a b (Some c) p q = p ∙ ap (option_map (λ rest. f ++ rest)) q ∙ ap Some (sym (append_assoc f g c))
+use Rattle.ygm_run.specs.declared.status.InputFault.{InputFault}
+use Rattle.ygm_run.specs.Reading.{Reading}
+use Rattle.ygm_run.proofs.Lines.FirstTooLong.{later_too_long, none_too_long_of}
+use Rattle.ygm_run.proofs.Lines.RawLines.{part_short}
+use Rattle.ygm_run.proofs.Turns.ToCome.{taken_more, taken_none}
 
 pub lines_none : (before now : Told) → before ≡ now → LinesTaken [] before now
 lines_none before now same = record { given = []; taken = same ∙ taken_none now; lines = λ front later e. refl }
@@ -65,10 +62,6 @@ pub text_cut : (raw : List ℕ) (before now : Told) → LinesTaken (raw ∷ []) 
 text_cut raw before None t = ap (option_map lines_of) t.taken
 text_cut raw before (Some rest) t = ap (option_map lines_of) t.taken ∙ ap (λ raws. Some (map text_of raws)) (t.lines rest [] (ap Some (sym (append-nil rest))))
 
-part_short : (part : List ℕ) → LacksLf part → length part ≤ max_line → AllByRecursion (λ raw. length raw ≤ max_line) (raw_lines part)
-part_short [] h short = tt
-part_short (byte ∷ part) h short = subst (AllByRecursion (λ raw. length raw ≤ max_line)) (sym (raw_lines-at_end (byte ∷ part) h (omega arith))) (short, tt)
-
 -- Short lines were given, and with a part of the next that is short too nothing bad was read, a piece behind it aside; no
 -- more lines end there than were given.
 pub front_read : (raws : List (List ℕ)) (part piece held : List ℕ) (before now : Told) → held ≡ part ++ piece → LacksLf part → length part ≤ max_line → AllByRecursion (λ raw. length raw ≤ max_line) raws
@@ -85,3 +78,29 @@ front_read raws part piece held before (Some rest) is h fits short t =
           ∙ none_too_long_of (raws ++ raw_lines part) (all_append (λ raw. length raw ≤ max_line) raws (raw_lines part) short (part_short part h fits)),
       omega (arith, ended_lines-append t.given part, ended_lines-none part h, ended_are_lines t.given, ap length given),
     )
+
+-- what is to come at first is all that is left
+pub from_start : (raws : List (List ℕ)) (before now : Told) → LinesTaken raws (to_come [] before) now → LinesTaken raws before now
+from_start raws None now taken = taken
+from_start raws (Some bytes) now taken = taken
+
+-- where nothing more is to come, all lines of the bytes were given
+pub all_given : (raws : List (List ℕ)) (held : List ℕ) (before now : Told) → LinesTaken raws before (to_come held now) → held ≡ [] → NothingLeft now → IfSome before (λ bytes. raw_lines bytes ≡ raws)
+all_given raws held None now taken none left = tt
+all_given raws held (Some bytes) None taken none left = absurd (let e = taken.taken in cc)
+all_given raws held (Some bytes) (Some rest) taken none left =
+    whole_lines raws bytes (held ++ rest) taken ∙ ap (λ h. raws ++ raw_lines (h ++ rest)) none ∙ ap (λ r. raws ++ raw_lines r) left ∙ append-nil raws
+
+-- the line that is too long is the first of the bytes that is
+pub too_long_given : (raws : List (List ℕ)) (held : List ℕ) (before now : Told) → AllByRecursion (λ raw. length raw ≤ max_line) raws → LinesTaken raws before (to_come held now) → IfSome (to_come held now) StartsTooLong
+    → IfSome before (λ bytes. Some (length raws + 1) ≡ first_too_long (raw_lines bytes))
+too_long_given raws held None now short taken long = tt
+too_long_given raws held (Some bytes) None short taken long = absurd (let e = taken.taken in cc)
+too_long_given raws held (Some bytes) (Some rest) short taken long =
+    sym (ap first_too_long (whole_lines raws bytes (held ++ rest) taken) ∙ later_too_long raws (raw_lines (held ++ rest)) short long)
+
+-- all lines of the bytes were sent, where there is no fault
+pub all_sent_of : (raws : List (List ℕ)) (reader : Reading) (before now : Told) (faults : ℕ) (fault : Option InputFault) → LinesTaken raws before (to_come reader.held now)
+    → EndedWith fault reader now 0 faults → fault ≡ None → IfSome before (λ bytes. map text_of raws ≡ lines_of bytes)
+all_sent_of raws reader before now faults None taken ended none = IfSome_then before (all_given raws reader.held before now taken ended.0 ended.1) (λ bytes e. ap (map text_of) (sym e))
+all_sent_of raws reader before now faults (Some fault) taken ended none = cc

@@ -1,12 +1,12 @@
--- The parts of the bytes that are held.
-use Rattle.std.proofs.Common.{◌≡◌, ◌≢◌, zero, suc, ◌+◌, ◌-◌, ◌<◌, ◌≤◌, ℕ, List, [], ◌∷◌, ◌++◌, length, length-append, take, drop, Option, None, Some, IfSome, IfNone, unwrap_or, refl, ap, subst, ◌∙◌, sym, arith}
-use Rattle.std.proofs.lemmas.List.{append_assoc, length-take, length-take-le, take-append-drop}
+-- Bytes that start with a line.
+use Rattle.std.proofs.Common.{◌≡◌, ◌≢◌, zero, suc, ◌+◌, ◌-◌, ◌<◌, ◌≤◌, ℕ, List, [], ◌∷◌, ◌++◌, length, length-append, take, drop, Option, None, Some, IfSome, IfNone, unwrap_or, refl, ap, ◌∙◌, sym, arith}
+use Rattle.std.proofs.lemmas.List.{append_assoc, length-take}
 use Rattle.std.proofs.lemmas.List.Elements.{All-append, All-take}
 use Rattle.std.specs.Prelude.{slice_range}
 use Rattle.list_facts.proofs.Slices.{drop-slice_range}
-use Rattle.ygm_run.specs.Lines.{LacksLf, StartsTooLong, text_of, max_line}
+use Rattle.ygm_run.specs.Lines.{LacksLf, text_of, max_line}
 use Rattle.ygm_run.specs.Held.{StartsWithLine}
-use Rattle.ygm_run.proofs.Lines.RawLines.{starts_too_long}
+use Rattle.ygm_run.proofs.Lines.TextOf.{length-text_of}
 
 -- no line ends before the first LF
 pub LacksLf-front : (found : Option ℕ) (piece : List ℕ) (count : ℕ) → IfSome found (λ end. LacksLf (take end piece)) → IfNone found (LacksLf piece) → LacksLf (take (unwrap_or found count) piece)
@@ -36,17 +36,6 @@ waiting_line carry buffer text start end n none within bound partial parts is =
       text_is = is;
     }
 
--- the carry and what stands before the first LF are too long
-pub carried_too_long : (carry piece : List ℕ) (n : ℕ) → LacksLf carry → LacksLf (take n piece) → n ≤ length piece → max_line < length carry + n → (rest : List ℕ) → StartsTooLong ((carry ++ piece) ++ rest)
-carried_too_long carry piece n c f within long rest =
-    let front = take n piece in
-    let cut : (carry ++ piece) ++ rest ≡ (carry ++ front) ++ (drop n piece ++ rest) =
-    ap (λ p. (carry ++ p) ++ rest) (sym (take-append-drop n piece))
-    ∙ ap (λ b. b ++ rest) (sym (append_assoc carry front (drop n piece)))
-    ∙ append_assoc (carry ++ front) (drop n piece) rest in
-    subst StartsTooLong (sym cut)
-    (starts_too_long (carry ++ front) (drop n piece ++ rest) (All-append (λ b. b ≢ 10) carry front c f) (omega (arith, length-append carry front, length-take-le n piece within)))
-
 -- the same with the bytes written otherwise
 pub same_line : (bytes bytes' text held held' : List ℕ) → bytes ≡ bytes' → held ≡ held' → StartsWithLine bytes' text held' → StartsWithLine bytes text held
 same_line bytes bytes' text held held' b h line = record {
@@ -65,3 +54,7 @@ front_within (Some end) count most h some = omega arith
 pub nothing_carried : (carried start end : ℕ) → (0 < carried → start ≡ end) → start < end → carried ≡ 0
 nothing_carried zero start end h waits = refl
 nothing_carried (suc carried) start end h waits = absurd (let same : start ≡ end = h (omega arith) in omega arith)
+
+-- a line's text has no more bytes than a line may have
+pub text_is_short : (bytes text held : List ℕ) → StartsWithLine bytes text held → length text ≤ max_line
+text_is_short bytes text held line = omega (arith, ap length line.text_is, length-text_of line.raw, line.short)

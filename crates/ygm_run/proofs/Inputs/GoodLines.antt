@@ -1,25 +1,11 @@
--- Lines that have no more bytes than a line may have, and those before the first that has more.
+-- The lines before the first that has more bytes than a line may have.
 use Rattle.std.proofs.Common.{◌≡◌, ℕ, ◌+◌, ◌<◌, ◌≤◌, cond, List, [], ◌∷◌, ◌++◌, Some, None, Option, length, refl, ap, sym, ◌∙◌, subst, arith, inl, inr}
 use Rattle.std.specs.Option.{option_map}
 use Rattle.std.specs.List.{AllByRecursion}
 use Rattle.std.proofs.lemmas.Bool.{cases_lt, le-ltb, lt-ltb}
 use Rattle.ygm_run.specs.Inputs.{good_lines}
-use Rattle.ygm_run.specs.Lines.{max_line, first_too_long}
-
--- of short lines none is too long
-pub none_too_long_of : (raws : List (List ℕ)) → AllByRecursion (λ raw. length raw ≤ max_line) raws → first_too_long raws ≡ None
-none_too_long_of [] short = refl
-none_too_long_of (r ∷ raws) short =
-    ap (λ b. cond b (Some 1) (option_map (λ number. number + 1) (first_too_long raws))) (le-ltb max_line (length r) short.0)
-    ∙ ap (option_map (λ number. number + 1)) (none_too_long_of raws short.1)
-
--- behind short lines, the first that is too long has the next number
-pub later_too_long : (raws later : List (List ℕ)) → AllByRecursion (λ raw. length raw ≤ max_line) raws → first_too_long later ≡ Some 1 → first_too_long (raws ++ later) ≡ Some (length raws + 1)
-later_too_long [] later short long = long
-later_too_long (r ∷ raws) later short long =
-    ap (λ b. cond b (Some 1) (option_map (λ number. number + 1) (first_too_long (raws ++ later)))) (le-ltb max_line (length r) short.0)
-    ∙ ap (option_map (λ number. number + 1)) (later_too_long raws later short.1 long)
-    ∙ ap Some (let e : length raws + 1 + 1 ≡ length (r ∷ raws) + 1 = omega arith in e)
+use Rattle.ygm_run.specs.Lines.{max_line, first_too_long, AreShort, IsFirstTooLong}
+use Rattle.ygm_run.proofs.Lines.FirstTooLong.{short_of}
 
 -- short lines stand before any that is too long
 pub good_before : (raws later : List (List ℕ)) → AllByRecursion (λ raw. length raw ≤ max_line) raws → length raws ≤ length (good_lines (raws ++ later))
@@ -58,3 +44,21 @@ good_below (raw ∷ raws) number e =
           subst (λ w. length w < number) (sym (ap (λ b. cond b [] (raw ∷ good_lines raws)) (le-ltb max_line (length raw) short)))
           (good_next raw (good_lines raws) (first_too_long raws) number (good_below raws) (sym (ap (λ b. cond b (Some 1) later) (le-ltb max_line (length raw) short)) ∙ e))
     ]
+
+-- the good lines are those before the first that has too many bytes
+good_front : (before : List (List ℕ)) (line : List ℕ) (later : List (List ℕ)) → AllByRecursion (λ raw. length raw ≤ max_line) before → max_line < length line → good_lines (before ++ line ∷ later) ≡ before
+good_front [] line later short long = ap (λ b. cond b [] (line ∷ good_lines later)) (lt-ltb max_line (length line) long)
+good_front (raw ∷ before) line later short long =
+    ap (λ b. cond b [] (raw ∷ good_lines (before ++ line ∷ later))) (le-ltb max_line (length raw) short.0)
+    ∙ ap (λ w. raw ∷ w) (good_front before line later short.1 long)
+
+pub good_of_first : (raws : List (List ℕ)) (number : ℕ) (first : IsFirstTooLong raws number) → good_lines raws ≡ first.before
+good_of_first raws number first = ap good_lines first.parts ∙ good_front first.before first.line first.later (short_of first.before first.short) first.long
+
+all_good : (raws : List (List ℕ)) → AllByRecursion (λ raw. length raw ≤ max_line) raws → good_lines raws ≡ raws
+all_good [] short = refl
+all_good (raw ∷ raws) short = ap (λ b. cond b [] (raw ∷ good_lines raws)) (le-ltb max_line (length raw) short.0) ∙ ap (λ w. raw ∷ w) (all_good raws short.1)
+
+-- all lines are good where none has too many bytes
+pub good_of_short : (raws : List (List ℕ)) → AreShort raws → good_lines raws ≡ raws
+good_of_short raws short = all_good raws (short_of raws short)

@@ -1,5 +1,5 @@
 -- The files of one rank after another are read, and their lines are on their way.
-use Rattle.std.proofs.Common.{◌≡◌, ℕ, zero, suc, ◌+◌, ◌<◌, ◌≤◌, cond, eqb, List, [], ◌∷◌, ◌++◌, Some, None, Option, IfSome, length, map, set, get_or, refl, sym, ap, ◌∙◌, subst, inl, inr, arith, slice_get}
+use Rattle.std.proofs.Common.{◌≡◌, ℕ, zero, suc, ◌+◌, ◌<◌, ◌≤◌, cond, List, [], ◌∷◌, ◌++◌, Some, None, Option, IfSome, length, map, set, get_or, refl, sym, ap, ◌∙◌, subst, inl, inr, arith, slice_get}
 use Rattle.std.specs.Option.{option_map}
 use Rattle.std.proofs.lemmas.Bool.{cases_eq, cases_lt, eq-eqb, ne_eqb}
 use Rattle.std.proofs.lemmas.List.{length-map, get_or_past}
@@ -16,35 +16,9 @@ use Rattle.ygm_run.specs.Fed.{IsSent, with_lines}
 use Rattle.ygm_run.specs.Inputs.{AllRead, AreRests, IsFull, IsFullAtRank, IsLowestFault, IsRead, IsRest}
 use Rattle.ygm_run.specs.Job.{AreTold, lines_of_each}
 use Rattle.ygm_run.specs.Lines.{lines_of}
-use Rattle.ygm_run.proofs.Fed.Steps.{same_own, rest_none}
-
--- this is the fault of the lowest of the first ranks that has one, with its rank
-abbrev pub LowestBelow : (ℕ → Option InputFault) → ℕ → Option (ℕ × InputFault) → Type 0
-LowestBelow fault k None = (r : ℕ) → r < k → fault r ≡ None
-LowestBelow fault k (Some found) = (found.0 < k) × (fault found.0 ≡ Some found.1) × ((r : ℕ) → r < found.0 → fault r ≡ None)
-
--- the same faults, and that of one rank
-abbrev with_fault : (ℕ → Option InputFault) → ℕ → Option InputFault → ℕ → Option InputFault
-with_fault fault k new r = cond (eqb r k) new (fault r)
-
-at_same : (fault : ℕ → Option InputFault) (k r : ℕ) (new : Option InputFault) → r ≡ k → with_fault fault k new r ≡ new
-at_same fault k r new e = ap (λ b. cond b new (fault r)) (eq-eqb r k e)
-
-at_other : (fault : ℕ → Option InputFault) (k r : ℕ) (new : Option InputFault) → (r ≡ k → ⊥) → with_fault fault k new r ≡ fault r
-at_other fault k r new ne = ap (λ b. cond b new (fault r)) (ne_eqb r k ne)
-
--- the lowest fault, once that of the next rank is known
-pub lowest_more : (fault : ℕ → Option InputFault) (k : ℕ) (new : Option InputFault) (lowest now : Option (ℕ × InputFault)) → LowestBelow fault k lowest
-    → (lowest ≡ None → now ≡ option_map (λ found. (k, found)) new) → ((found : ℕ × InputFault) → lowest ≡ Some found → now ≡ lowest) → LowestBelow (with_fault fault k new) (k + 1) now
-lowest_more fault k None None now before none some =
-    subst (LowestBelow (with_fault fault k None) (k + 1)) (sym (none refl))
-    (λ r lt. elim (cases_eq r k) [ inl e ↦ at_same fault k r None e | inr ne ↦ at_other fault k r None ne ∙ before r (omega (arith, lt, ne)) ])
-lowest_more fault k (Some new) None now before none some =
-    subst (LowestBelow (with_fault fault k (Some new)) (k + 1)) (sym (none refl))
-    (omega arith, at_same fault k k (Some new) refl, λ r lt. at_other fault k r (Some new) (λ e. omega (arith, lt, e)) ∙ before r lt)
-lowest_more fault k new (Some found) now before none some =
-    subst (LowestBelow (with_fault fault k new) (k + 1)) (sym (some found refl))
-    (omega (arith, before.0), at_other fault k found.0 new (λ e. omega (arith, before.0, e)) ∙ before.1, λ r lt. at_other fault k r new (λ e. omega (arith, before.0, lt, e)) ∙ before.2 r lt)
+use Rattle.ygm_run.proofs.Fed.Steps.{same_own}
+use Rattle.ygm_run.proofs.Inputs.IsRest.{rest_none}
+use Rattle.ygm_run.proofs.Inputs.LowestFault.{LowestBelow, at_other, at_same, lowest_more, with_fault}
 
 -- The files of the first ranks were read, and the lines before each fault are on their way; the other files are as they were.
 pub record ReadSoFar {S : Type 0} (left : S → Told) (count : S → ℕ) (n : ℕ) (start sources : List S) (k : ℕ) (comms : List (Rank Counts)) (links : Plain) (lowest : Option (ℕ × InputFault)) : Type 0 where

@@ -1,9 +1,10 @@
 -- Where the raw lines of bytes are cut.
-use Rattle.std.proofs.Common.{◌≡◌, ◌≢◌, ◌+◌, ◌<◌, ◌≤◌, ℕ, eqb, List, [], ◌∷◌, ◌++◌, length, Bool, true, false, cond, Some, refl, ap, ◌∙◌, arith, ⊎_elim}
+use Rattle.std.proofs.Common.{subst, sym, ◌≡◌, ◌≢◌, ◌+◌, ◌<◌, ◌≤◌, ℕ, eqb, List, [], ◌∷◌, ◌++◌, length, Bool, true, false, cond, Some, refl, ap, ◌∙◌, arith, ⊎_elim}
 use Rattle.std.proofs.lemmas.List.Elements.{All-head, All-tail}
 use Rattle.std.proofs.lemmas.List.Sums.{sum_by-append, sum_by-cons}
 use Rattle.std.proofs.lemmas.Bool.{lt-ltb}
 use Rattle.std.proofs.lemmas.Bool.Decides.{eqb_tells}
+use Rattle.std.specs.List.{AllByRecursion}
 use Rattle.std.specs.Option.{option_map}
 use Rattle.ygm_run.specs.Lines.{raw_lines, onto_first, ended_lines, LacksLf, StartsTooLong, first_too_long, max_line}
 
@@ -93,3 +94,8 @@ ended_are_lines (byte ∷ bytes) =
       by_test : (b : Bool) → ended_lines bytes ≤ length (raw_lines bytes) → cond b 1 0 + ended_lines bytes ≤ length (cond b ([] ∷ raw_lines bytes) (onto_first byte (raw_lines bytes)))
       by_test true rest = omega (arith, rest)
       by_test false rest = omega (arith, rest, lines_onto_first byte (raw_lines bytes))
+
+-- a short part of a line is no long line
+pub part_short : (part : List ℕ) → LacksLf part → length part ≤ max_line → AllByRecursion (λ raw. length raw ≤ max_line) (raw_lines part)
+part_short [] h short = tt
+part_short (byte ∷ part) h short = subst (AllByRecursion (λ raw. length raw ≤ max_line)) (sym (raw_lines-at_end (byte ∷ part) h (omega arith))) (short, tt)

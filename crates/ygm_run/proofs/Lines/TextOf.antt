@@ -4,8 +4,7 @@ use Rattle.std.proofs.lemmas.List.{take_more, take_all}
 use Rattle.std.proofs.lemmas.Option.{slice_get-get_or}
 use Rattle.std.specs.List.{slice_get}
 use Rattle.std.specs.Option.{option_eq}
-use Rattle.ygm_run.specs.Lines.{text_of, max_line}
-use Rattle.ygm_run.specs.Held.{StartsWithLine}
+use Rattle.ygm_run.specs.Lines.{text_of}
 
 put_before : (x last : ℕ) (b : Bool) (xs : List ℕ) → x ∷ cond b xs (xs ++ last ∷ []) ≡ cond b (x ∷ xs) (x ∷ xs ++ last ∷ [])
 put_before x last true xs = refl
@@ -58,7 +57,3 @@ length-text_of (byte ∷ []) = by_test (eqb byte 13)
     by_test true = omega arith
     by_test false = omega arith
 length-text_of (byte ∷ next ∷ bytes) = omega (arith, length-text_of (next ∷ bytes))
-
--- a line's text has no more bytes than a line may have
-pub text_is_short : (bytes text held : List ℕ) → StartsWithLine bytes text held → length text ≤ max_line
-text_is_short bytes text held line = omega (arith, ap length line.text_is, length-text_of line.raw, line.short)

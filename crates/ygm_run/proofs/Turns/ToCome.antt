@@ -1,46 +1,27 @@
--- What is to come, where it is told.
-use Rattle.std.proofs.Common.{◌≡◌, ◌≤◌, ℕ, List, [], ◌∷◌, ◌++◌, length, Some, None, Ok, refl, ap, subst, ◌∙◌, sym, IfSome, inl, inr}
-use Rattle.std.proofs.lemmas.List.{append_assoc}
+-- What is to come, and what is gone from its front.
+use Rattle.std.proofs.Common.{◌≡◌, ℕ, List, [], ◌++◌, Some, None, refl, sym, ap, ◌∙◌, subst, append_assoc, IfSome}
 use Rattle.std.specs.Option.{option_map}
+use Rattle.std.proofs.lemmas.List.{append_assoc}
 use Rattle.ygm_io.specs.Content.{Told, TakenFrom, NothingLeft}
-use Rattle.ygm_run.specs.Lines.{lines_of, text_of, StartsTooLong}
-use Rattle.ygm_run.specs.Held.{StartsWithLine, AreLastLine}
-use Rattle.ygm_io.specs.Rising.{next_count}
-use Rattle.ygm_run.specs.Reading.{Reading}
-use Rattle.ygm_run.specs.Turns.{to_come, lines_to_come, FirstTaken, GaveLine, RawLineTaken, IfLine}
-use Rattle.ygm_run.specs.declared.line_reader.Got.{Got}
-use Rattle.ygm_run.specs.declared.line_reader.Got.TheVariants.{Line}
-use Rattle.ygm_run.proofs.Fed.LinesTaken.{line_cut, text_cut}
+use Rattle.ygm_run.specs.Lines.{lines_of, StartsTooLong}
+use Rattle.ygm_run.specs.Turns.{to_come, lines_to_come}
+
+pub taken_none : (left : Told) → TakenFrom [] left left
+taken_none None = refl
+taken_none (Some bytes) = refl
+
+pub taken_more : (f g : List ℕ) (a b c : Told) → TakenFrom f a b → TakenFrom g b c → TakenFrom (f ++ g) a c
+taken_more f g a b None p q = p ∙ ap (option_map (λ rest. f ++ rest)) q
+taken_more f g a b (Some c) p q = p ∙ ap (option_map (λ rest. f ++ rest)) q ∙ ap Some (sym (append_assoc f g c))
 
 -- what was read is held
 pub to_come-read : (held piece : List ℕ) (before now : Told) → TakenFrom piece before now → to_come (held ++ piece) now ≡ to_come held before
 to_come-read held piece before None e = sym (ap (to_come held) e)
 to_come-read held piece before (Some rest) e = ap Some (append_assoc held piece rest) ∙ sym (ap (to_come held) e)
 
-lines_from_to_come : (held : List ℕ) (left : Told) → lines_to_come held left ≡ option_map lines_of (to_come held left)
+pub lines_from_to_come : (held : List ℕ) (left : Told) → lines_to_come held left ≡ option_map lines_of (to_come held left)
 lines_from_to_come held None = refl
 lines_from_to_come held (Some rest) = refl
-
-cut_at_lf : (bytes text held : List ℕ) (left : Told) (line : StartsWithLine bytes text held) → TakenFrom (line.raw ++ 10 ∷ []) (to_come bytes left) (to_come held left)
-cut_at_lf bytes text held None line = refl
-cut_at_lf bytes text held (Some rest) line =
-    ap (λ w. Some (w ++ rest)) line.whole
-    ∙ ap Some (append_assoc line.raw (10 ∷ held) rest ∙ sym (append_assoc line.raw (10 ∷ []) (held ++ rest)))
-
--- a line that stood whole in what was held
-pub line_taken : (bytes text held : List ℕ) (left : Told) → StartsWithLine bytes text held → RawLineTaken text (to_come bytes left) (to_come held left)
-line_taken bytes text held left line = record {
-  raw = line.raw;
-  text_is = line.text_is;
-  short = line.short;
-  partial = line.partial;
-  cut = inl (cut_at_lf bytes text held left line);
-}
-
--- a line that a read made whole
-pub line_read : (before_held piece text held : List ℕ) (before now : Told) → TakenFrom piece before now → StartsWithLine (before_held ++ piece) text held → RawLineTaken text (to_come before_held before) (to_come held now)
-line_read before_held piece text held before now e line =
-    subst (λ told. RawLineTaken text told (to_come held now)) (to_come-read before_held piece before now e) (line_taken (before_held ++ piece) text held now line)
 
 -- nothing was read
 pub left_stands : (before now : Told) → TakenFrom [] before now → before ≡ now
@@ -52,49 +33,15 @@ pub nothing_to_come : (left : Told) → NothingLeft left → NothingLeft (to_com
 nothing_to_come None h = tt
 nothing_to_come (Some rest) h = h
 
-all_taken : (bytes : List ℕ) (now : Told) → NothingLeft now → TakenFrom bytes (to_come bytes now) (to_come [] now)
+pub all_taken : (bytes : List ℕ) (now : Told) → NothingLeft now → TakenFrom bytes (to_come bytes now) (to_come [] now)
 all_taken bytes None none = refl
 all_taken bytes (Some rest) none = refl
-
--- the last line, which no LF ends
-pub last_line_taken : (bytes text : List ℕ) (before now : Told) → AreLastLine bytes text → TakenFrom [] before now → NothingLeft before → RawLineTaken text (to_come bytes before) (to_come [] now)
-last_line_taken bytes text before now line e none = record {
-  raw = bytes;
-  text_is = line.text_is;
-  short = line.short;
-  partial = line.partial;
-  cut =
-      let same = left_stands before now e in
-      let left = subst NothingLeft same none in
-      inr (line.some, subst (λ told. TakenFrom bytes (to_come bytes told) (to_come [] now)) (sym same) (all_taken bytes now left), nothing_to_come now left);
-}
-
--- the texts go with the raw lines
-pub texts_taken : (text bytes held : List ℕ) (before now : Told) → RawLineTaken text (to_come bytes before) (to_come held now) → FirstTaken text (lines_to_come bytes before) (lines_to_come held now)
-texts_taken text bytes held before now line =
-    lines_from_to_come bytes before
-    ∙ text_cut line.raw (to_come bytes before) (to_come held now) (line_cut line.raw (to_come bytes before) (to_come held now) line.partial line.cut)
-    ∙ ap (option_map (λ lines. text_of line.raw ∷ lines)) (sym (lines_from_to_come held now))
-    ∙ ap (λ t. option_map (λ lines. t ∷ lines) (lines_to_come held now)) (sym line.text_is)
 
 pub too_long_to_come : (held piece : List ℕ) (before now : Told) → TakenFrom piece before now → ((rest : List ℕ) → StartsTooLong ((held ++ piece) ++ rest)) → IfSome (to_come held before) StartsTooLong
 too_long_to_come held piece before None e h = subst (λ left. IfSome (to_come held left) StartsTooLong) (sym e) tt
 too_long_to_come held piece before (Some rest) e h =
     subst (λ left. IfSome (to_come held left) StartsTooLong) (sym e)
     (subst StartsTooLong (append_assoc held piece rest) (h rest))
-
--- the line was handed out, from bytes that are held
-pub gave_line : {S : Type 0} (left : S → Told) (got : Got) (text bytes held : List ℕ) (old new : Reading) (before now : S) → got ≡ Line text → old.held ≡ bytes → new.held ≡ held
-    → new.given ≡ next_count old.given → length held ≤ 65536 → RawLineTaken text (to_come bytes (left before)) (to_come held (left now)) → IfLine (Ok got) (λ line. GaveLine left line old new before now)
-gave_line left got text bytes held old new before now is was held_is counted bound taken =
-    let raw : RawLineTaken text (to_come old.held (left before)) (to_come new.held (left now)) = rw (was, held_is) taken in
-    subst (λ g. IfLine (Ok g) (λ line. GaveLine left line old new before now)) (sym is)
-    (record {
-      line = texts_taken text old.held new.held (left before) (left now) raw;
-      raw_line = raw;
-      line_counted = counted;
-      line_bound = rw held_is bound;
-    })
 
 -- no line is too long where nothing is to come
 pub none_too_long : (bytes : Told) → bytes ≡ Some [] → IfSome bytes StartsTooLong → ⊥

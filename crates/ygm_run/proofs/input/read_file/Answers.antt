@@ -1,11 +1,15 @@
-use Rattle.std.proofs.Common.{◌≡◌, None, ◌<◌, ◌^◌, ◌∙◌, [], false, length, refl, ap, sym, subst, arith}
+use Rattle.std.proofs.Common.{◌≡◌, None, ◌∙◌, [], false, refl, ap, sym, subst, arith}
 use Rattle.std.proofs.lemmas.Result.{err_from_is_err_and}
+use Rattle.std.proofs.lemmas.Option.{IfSome_then}
 use Rattle.ygm_run.specs.Fed.{EndedWith, Fed}
-use Rattle.ygm_run.specs.Inputs.{IsFull, good_lines}
-use Rattle.ygm_run.specs.Lines.{raw_lines}
+use Rattle.ygm_run.specs.Inputs.{IsFull}
 use Rattle.ygm_run.specs.Reading.{Reading}
 use Rattle.ygm_run.specs.Turns.{to_come}
-use Rattle.ygm_run.proofs.Fed.Steps.{fed_nothing, not_ended, fed_more, from_start, was_read, rest_none, rest_more, full_so, told_so, many_good, all_sent_of}
+use Rattle.ygm_run.proofs.Fed.Steps.{fed_nothing, fed_more}
+use Rattle.ygm_run.proofs.Inputs.IsRead.{not_ended, was_read}
+use Rattle.ygm_run.proofs.Fed.LinesTaken.{from_start, all_sent_of}
+use Rattle.ygm_run.proofs.Inputs.IsRest.{rest_none, rest_more}
+use Rattle.ygm_run.proofs.Inputs.IsFull.{full_so, many_good}
 use Rattle.ygm_run.proofs.input.read_file.Goals as goal
 
 pub loop-fault-init : goal.loop-fault-init
@@ -33,9 +37,7 @@ returns-in_err-fault-clause-full g c =
     (full_so _ (IsFull (g.S.Source.left c.args.source.now) (g.S.Source.faults c.take_turn.new.source)) _
     (λ limit at. record {
       limit_is = at.limit_is;
-      lines = told_so (λ bytes. length before.fed.raws < length (good_lines (raw_lines bytes))) (λ bytes. 2 ^ 56 < length (good_lines (raw_lines bytes))) (g.S.Source.left c.args.source.now)
-          (λ bytes more. omega (arith, more, at.many, before.sent, before.fed.given))
-          (many_good before.fed.raws (g.S.Source.left c.args.source.now) (to_come c.loop-fault.reader.held (g.S.Source.left c.loop-fault.source)) before.fed.short (from_start _ _ _ before.fed.taken) at.line);
+      lines = IfSome_then (g.S.Source.left c.args.source.now) (many_good before.fed.raws (g.S.Source.left c.args.source.now) (to_come c.loop-fault.reader.held (g.S.Source.left c.loop-fault.source)) before.fed.short (from_start _ _ _ before.fed.taken) at.line) (λ bytes more. omega (arith, more, at.many, before.sent, before.fed.given));
       no_read_failed = at.no_read_failed ∙ before.going_on (sym c.done.ensures ∙ c.loop-fault-test.true);
     })
     now.full)

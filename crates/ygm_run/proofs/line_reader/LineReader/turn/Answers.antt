@@ -6,8 +6,10 @@ use Rattle.ygm_run.specs.Lines.{StartsTooLong}
 use Rattle.ygm_run.specs.Held.{held_in}
 use Rattle.ygm_run.specs.Reading.{Reading}
 use Rattle.ygm_run.specs.Turns.{to_come}
-use Rattle.ygm_run.proofs.Lines.TextOf.{text_is_short, length-text_of}
-use Rattle.ygm_run.proofs.Turns.ToCome.{gave_line, to_come-read, line_taken, line_read, last_line_taken, too_long_to_come, none_too_long}
+use Rattle.ygm_run.proofs.Held.StartsWithLine.{text_is_short}
+use Rattle.ygm_run.proofs.Lines.TextOf.{length-text_of}
+use Rattle.ygm_run.proofs.Turns.GaveLine.{gave_line, line_taken, line_read, last_line_taken}
+use Rattle.ygm_run.proofs.Turns.ToCome.{to_come-read, too_long_to_come, none_too_long}
 use Rattle.ygm_run.proofs.line_reader.LineReader.turn.Goals as goal
 
 -- a line that the buffer held whole

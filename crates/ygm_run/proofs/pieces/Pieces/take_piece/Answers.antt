@@ -8,7 +8,8 @@ use Rattle.list_facts.proofs.Outcomes.{unwrapped}
 use Rattle.list_facts.proofs.Slices.{slice_range-behind, slice_range-empty, slice_range-front}
 use Rattle.ygm_run.specs.Lines.{LacksLf, StartsTooLong, text_of}
 use Rattle.ygm_run.specs.Held.{held_in}
-use Rattle.ygm_run.proofs.Held.StartsWithLine.{LacksLf-front, front_within, same_line, carried_line, carried_too_long}
+use Rattle.ygm_run.proofs.Held.StartsWithLine.{LacksLf-front, front_within, same_line, carried_line}
+use Rattle.ygm_run.proofs.Held.IsTooLong.{carried_too_long}
 use Rattle.ygm_run.proofs.pieces.Pieces.take_piece.Goals as goal
 
 pub returns-then-len-length-gt-MAX_LINE-clause-too_long : goal.returns-then-len-length-gt-MAX_LINE-clause-too_long
