@@ -1,2 +1,1 @@
-pub mod JobStops
 pub mod RunEnds

@@ -3,6 +3,7 @@ pub mod Ending
 pub mod Fed
 pub mod Held
 pub mod Inputs
+pub mod JobEnds
 pub mod Lines
 pub mod Notes
 pub mod TallyText

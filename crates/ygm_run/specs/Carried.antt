@@ -1,4 +1,4 @@
--- The lines of each rank on their way to the ranks that own them.
+-- Only private functions cite this: the lines of each rank on their way to the ranks that own them.
 use Rattle.std.specs.Prelude.{◌≡◌, ℕ, ◌+◌, ◌<◌, ◌≤◌, ◌^◌, ◌==◌, false, List, [], ◌∷◌, ◌++◌, Some, length, map, filter, flat_map, slice_get, slice_index, if◌then◌else◌}
 use Rattle.std.specs.List.{AllByRecursion}
 use Rattle.msg_codec.specs.declared.letter.Letter.{Letter}

@@ -2,14 +2,10 @@
 use Rattle.std.specs.Prelude.{◌≡◌, ◌⊎◌, ℕ, ◌<◌, List, [], Result, Ok, Err, Some, length, map, slice_get, take, ⊤}
 use Rattle.ygm_io.specs.Content.{Told, AppendedTo}
 use Rattle.ygm_io.specs.Rising.{Rose}
-use Rattle.comm_rank.specs.declared.fault.CommFault.{CommFault}
-use Rattle.comm_rank.specs.declared.fault.CommFault.TheVariants.{CountFull as CommFull, NoMemory as CommNoMemory, Stopped as CommStopped}
 use Rattle.ygm_run.specs.declared.status.InputFault.{InputFault}
 use Rattle.ygm_run.specs.declared.status.InputFault.TheVariants.{Read, Bad}
 use Rattle.ygm_run.specs.declared.status.Status.{Status}
 use Rattle.ygm_run.specs.declared.status.Status.TheVariants.{Done, Usage, OpenFault, ReadFault, BadLine, WriteFault, NoMemory, CountFull}
-use Rattle.ygm_run.specs.declared.tally.JobFault.{JobFault}
-use Rattle.ygm_run.specs.declared.tally.JobFault.TheVariants.{Input as JobInput, CountFull as JobFull, NoMemory as JobNoMemory}
 use Rattle.ygm_run.specs.declared.words.UsageKind.{UsageKind}
 use Rattle.ygm_run.specs.Inputs.{AllRead, IsFullAtRank, IsLowestFault}
 
@@ -82,11 +78,6 @@ EndsBy refused unopened full fault unwritten done NoMemory = ⊤
 abbrev pub Opened : {S : Type 0} → Result (List (List ℕ)) UsageKind → List S → (List (List ℕ) → Type 0) → Type 0
 Opened order sources P = (names : List (List ℕ)) × (order ≡ Ok names) × (length sources ≡ length names) × P names
 
--- why the job ended so over these files, each of which was opened
-abbrev pub JobEnds : {S : Type 0} → (S → Told) → (S → ℕ) → List Told → List S → Type 0 → Status → Type 0
-JobEnds left count helds sources writing =
-    EndsBy (λ _. ⊥) (λ _. ⊥) (IsFullAtRank left count helds sources) (IsLowestFault left count helds sources) (AllRead left count helds sources × writing) (AllRead left count helds sources)
-
 -- The file of this number is the first that couldn't be opened: those before it were, and not a byte of them was read.
 pub record IsFirstUnopened {S : Type 0} (left : S → Told) (count : S → ℕ) (content : List ℕ → Told) (names : List (List ℕ)) (sources : List S) (file : ℕ) : Type 0 where
   pub within : file < length names
@@ -108,40 +99,6 @@ RunEnds left count order content sources opening writing =
     (Opened order sources (λ names. AllRead left count (map content names) sources × writing))
     (Opened order sources (λ names. AllRead left count (map content names) sources))
 
--- a status other than want of memory
-abbrev pub UnlessNoMemory : Status → Type 0 → Type 0
-UnlessNoMemory Done P = P
-UnlessNoMemory (Usage kind) P = P
-UnlessNoMemory (OpenFault file) P = P
-UnlessNoMemory (ReadFault rank) P = P
-UnlessNoMemory (BadLine rank line why) P = P
-UnlessNoMemory WriteFault P = P
-UnlessNoMemory NoMemory P = ⊤
-UnlessNoMemory (CountFull rank at) P = P
-
 -- the run is done, or memory was wanting
 abbrev pub IsDoneIfMemory : Status → Type 0
 IsDoneIfMemory status = (status ≡ Done) ⊎ (status ≡ NoMemory)
-
--- the status of a job that has no text
-abbrev pub status_of : JobFault → Status
-status_of (JobInput rank Read) = ReadFault rank
-status_of (JobInput rank (Bad line why)) = BadLine rank line why
-status_of (JobFull rank at) = CountFull rank at
-status_of JobNoMemory = NoMemory
-
--- the cause of a job's fault
-abbrev pub StopsBy : (full : ℕ → ℕ → Type 0) (fault : ℕ → InputFault → Type 0) → JobFault → Type 0
-StopsBy full fault (JobInput rank found) = fault rank found
-StopsBy full fault (JobFull rank at) = full rank at
-StopsBy full fault JobNoMemory = ⊤
-
--- why the job over these files has no text
-abbrev pub JobStops : {S : Type 0} → (S → Told) → (S → ℕ) → List Told → List S → JobFault → Type 0
-JobStops left count helds sources = StopsBy (IsFullAtRank left count helds sources) (IsLowestFault left count helds sources)
-
--- a rank's fault as one of the job; no rank's is a stop
-abbrev pub IsFaultOf : ℕ → CommFault → JobFault → Type 0
-IsFaultOf rank (CommFull at) fault = fault ≡ JobFull rank at
-IsFaultOf rank CommNoMemory fault = fault ≡ JobNoMemory
-IsFaultOf rank CommStopped fault = ⊥

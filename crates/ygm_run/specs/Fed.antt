@@ -1,5 +1,5 @@
 -- Only private functions cite this: the lines of a rank's input that were given to the world.
-use Rattle.std.specs.Prelude.{◌≡◌, ℕ, ◌+◌, ◌-◌, ◌*◌, ◌<◌, ◌≤◌, ◌^◌, ◌==◌, true, false, List, ◌++◌, Option, None, Some, IfSome, length, map, slice_index, if◌then◌else◌, []}
+use Rattle.std.specs.Prelude.{◌≡◌, ℕ, ◌+◌, ◌-◌, ◌*◌, ◌<◌, ◌≤◌, ◌==◌, true, false, List, ◌++◌, Option, None, Some, IfSome, length, map, slice_index, if◌then◌else◌, []}
 use Rattle.std.specs.List.{AllByRecursion}
 use Rattle.ygm_io.specs.Content.{Told, TakenFrom, NothingLeft}
 use Rattle.ygm_io.specs.Rising.{Rose}
@@ -9,7 +9,8 @@ use Rattle.counting_set.specs.Counting.{Counts}
 use Rattle.ygm_run.specs.declared.status.InputFault.{InputFault}
 use Rattle.ygm_run.specs.declared.status.InputFault.TheVariants.{Read, Bad}
 use Rattle.ygm_run.specs.Carried.{AreReady, Carried, sent_counts}
-use Rattle.ygm_run.specs.Lines.{max_line, lines_of, raw_lines, text_of, LacksLf, StartsTooLong}
+use Rattle.ygm_run.specs.Limits.{max_line, most_letters}
+use Rattle.ygm_run.specs.Lines.{lines_of, raw_lines, text_of, LacksLf, StartsTooLong}
 use Rattle.ygm_run.specs.Reading.{Reading}
 use Rattle.ygm_run.specs.Turns.{PieceBehind, RawLineTaken, to_come}
 
@@ -33,7 +34,7 @@ pub record Fed (ranks rank : ℕ) (before after : List (Rank Counts)) (old new :
 
 -- a bound on the turns that a rank's input still takes, by the letters that it has sent and the bytes that are held of its next line
 abbrev pub turns_left : ℕ → List ℕ → ℕ
-turns_left sent held = (2 ^ 56 - sent) * 2000000 + (1000000 - length held)
+turns_left sent held = (most_letters - sent) * (2 * max_line) + (max_line - length held)
 
 -- Why the reading of an input ended: all of it was read, a read failed with no bad line held, or the piece that was read
 -- last made the next line too long. The counts are the source's of faults, before and now.
@@ -57,7 +58,7 @@ pub record TurnFed {S : Type 0} (left : S → Told) (count : S → ℕ) (ranks r
   pub ready : AreReady after new
   pub fed : Fed ranks rank before after old new reader reader_now (left source) (left source_now)
   pub sent : reader_now.given + slice_index (sent_counts before) rank ≡ reader.given + slice_index (sent_counts after) rank
-  pub bound : slice_index (sent_counts before) rank ≤ 2 ^ 56 → slice_index (sent_counts after) rank ≤ 2 ^ 56
+  pub bound : slice_index (sent_counts before) rank ≤ most_letters → slice_index (sent_counts after) rank ≤ most_letters
   pub nearer : reader_now.done ≡ false → turns_left (slice_index (sent_counts after) rank) reader_now.held < turns_left (slice_index (sent_counts before) rank) reader.held
   pub ended : reader_now.done ≡ true → EndedWith fault reader_now (left source_now) (count source) (count source_now)
   pub going_on : reader_now.done ≡ false → count source_now ≡ count source
@@ -65,7 +66,7 @@ pub record TurnFed {S : Type 0} (left : S → Told) (count : S → ℕ) (ranks r
 
 -- A turn found a line for which the rank's count has no room, with the limit that its counter gave.
 pub record FullAtLine {S : Type 0} (left : S → Told) (count : S → ℕ) (limit sent : ℕ) (reader : Reading) (source source_now : S) : Type 0 where
-  pub limit_is : limit ≡ 2 ^ 56
-  pub many : 2 ^ 56 ≤ sent
+  pub limit_is : limit ≡ most_letters
+  pub many : most_letters ≤ sent
   pub no_read_failed : count source_now ≡ count source
   pub line : HasLine (to_come reader.held (left source))

@@ -3,7 +3,8 @@ use Rattle.std.specs.Prelude.{◌≡◌, ℕ, ◌+◌, ◌<◌, ◌≤◌, List,
 use Rattle.ygm_io.specs.Content.{Told, TakenFrom, NothingLeft}
 use Rattle.ygm_run.specs.declared.pieces.Pieces.{Pieces}
 use Rattle.ygm_run.specs.declared.pieces.TheConstants.{READING_SPACE}
-use Rattle.ygm_run.specs.Lines.{max_line, text_of, LacksLf, StartsTooLong}
+use Rattle.ygm_run.specs.Limits.{max_line}
+use Rattle.ygm_run.specs.Lines.{text_of, LacksLf, StartsTooLong}
 
 -- the bytes of the piece that was read last, without those that were given
 abbrev pub waiting_in : Pieces → List ℕ

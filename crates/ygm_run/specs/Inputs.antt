@@ -1,10 +1,11 @@
 -- How the files of the ranks were read, and which of their faults is told.
-use Rattle.std.specs.Prelude.{◌≡◌, ◌↔◌, ℕ, ◌<◌, ◌≤◌, ◌^◌, List, [], ◌∷◌, ◌++◌, Option, None, Some, IfSome, length, nat_lt, slice_get, if◌then◌else◌}
+use Rattle.std.specs.Prelude.{◌≡◌, ◌↔◌, ℕ, ◌<◌, ◌≤◌, List, [], ◌∷◌, ◌++◌, Option, None, Some, IfSome, length, nat_lt, slice_get, if◌then◌else◌}
 use Rattle.ygm_io.specs.Content.{Told, TakenFrom, NothingLeft}
 use Rattle.ygm_run.specs.declared.status.InputFault.{InputFault}
 use Rattle.ygm_run.specs.declared.status.InputFault.TheVariants.{Read, Bad}
 use Rattle.ygm_run.specs.declared.status.LineWhy.{LineWhy}
-use Rattle.ygm_run.specs.Lines.{max_line, raw_lines, ended_lines, first_too_long}
+use Rattle.ygm_run.specs.Limits.{max_line, max_piece, most_letters}
+use Rattle.ygm_run.specs.Lines.{raw_lines, ended_lines, first_too_long}
 
 -- what is left of what was held: some front of it is gone
 abbrev pub IsRest : Told → Told → Type 0
@@ -36,20 +37,20 @@ pub record IsRead {S : Type 0} (left : S → Told) (count : S → ℕ) (held : T
   -- without a fault nothing is left
   pub to_its_end : fault ≡ None → NothingLeft (left source)
   -- what was read before a read failed has no bad line, and no more lines end in it than a rank sends letters
-  pub before_read : fault ≡ Some Read → (front : List ℕ) × TakenFrom front held (left source) × (first_too_long (raw_lines front) ≡ None) × (ended_lines front ≤ 2 ^ 56)
+  pub before_read : fault ≡ Some Read → (front : List ℕ) × TakenFrom front held (left source) × (first_too_long (raw_lines front) ≡ None) × (ended_lines front ≤ most_letters)
   -- and behind that read nothing was taken
   pub nothing_behind : NothingBehind left count source fault
   -- what was read before the piece that made a line bad has no bad line, and nothing was read behind that piece
-  pub stops : (line : ℕ) (why : LineWhy) → fault ≡ Some (Bad line why) → (front piece : List ℕ) × (length piece ≤ 65536)
+  pub stops : (line : ℕ) (why : LineWhy) → fault ≡ Some (Bad line why) → (front piece : List ℕ) × (length piece ≤ max_piece)
       × TakenFrom (front ++ piece) held (left source) × (first_too_long (raw_lines front) ≡ None)
   -- where no read failed, no more lines stand before a bad one than a rank sends letters
-  pub few : count source ≡ 0 → IfSome held (λ bytes. length (good_lines (raw_lines bytes)) ≤ 2 ^ 56)
+  pub few : count source ≡ 0 → IfSome held (λ bytes. length (good_lines (raw_lines bytes)) ≤ most_letters)
 
 -- A rank's count of letters is full, with the limit that its counter gave: its file, which held this and has this count
 -- of faults, gives more lines before a bad one than a rank sends letters.
 pub record IsFull (held : Told) (count limit : ℕ) : Type 0 where
-  pub limit_is : limit ≡ 2 ^ 56
-  pub lines : IfSome held (λ bytes. 2 ^ 56 < length (good_lines (raw_lines bytes)))
+  pub limit_is : limit ≡ most_letters
+  pub lines : IfSome held (λ bytes. most_letters < length (good_lines (raw_lines bytes)))
   pub no_read_failed : count ≡ 0
 
 -- the files of sources, in the order of ranks, were read, each with its fault

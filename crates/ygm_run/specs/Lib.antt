@@ -4,6 +4,8 @@ pub mod Fed
 pub mod Held
 pub mod Inputs
 pub mod Job
+pub mod JobEnds
+pub mod Limits
 pub mod Lines
 pub mod Notes
 pub mod Reading

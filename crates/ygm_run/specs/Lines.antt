@@ -1,10 +1,7 @@
 -- The lines of bytes. A line ends at LF (10), and one CR (13) at its end is no part of its text.
 use Rattle.std.specs.Prelude.{◌≡◌, ◌≢◌, ◌==◌, ℕ, ◌+◌, List, [], ◌∷◌, All, count_by, map, length, ◌++◌, ◌<◌, ◌≤◌, Option, None, Some, nat_lt, if◌then◌else◌}
 use Rattle.std.specs.Option.{option_map}
-
--- how many bytes a line has at most, a CR counted and its LF not
-abbrev pub max_line : ℕ
-max_line = 1000000
+use Rattle.ygm_run.specs.Limits.{max_line}
 
 -- the lines with a byte put before the first
 abbrev pub onto_first : ℕ → List (List ℕ) → List (List ℕ)

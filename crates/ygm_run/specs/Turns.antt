@@ -7,7 +7,8 @@ use Rattle.ygm_run.specs.declared.line_reader.Got.{Got}
 use Rattle.ygm_run.specs.declared.line_reader.Got.TheVariants.{Line, More, End}
 use Rattle.ygm_run.specs.declared.line_reader.LineFault.{LineFault}
 use Rattle.ygm_run.specs.declared.line_reader.LineFault.TheVariants.{ReadFault, LineTooLong, NoMemory}
-use Rattle.ygm_run.specs.Lines.{lines_of, text_of, max_line, LacksLf, StartsTooLong}
+use Rattle.ygm_run.specs.Limits.{max_line, max_piece}
+use Rattle.ygm_run.specs.Lines.{lines_of, text_of, LacksLf, StartsTooLong}
 use Rattle.ygm_run.specs.Reading.{Reading}
 
 -- what a turn returns
@@ -40,13 +41,13 @@ pub record RawLineTaken (text : List ℕ) (before now : Told) : Type 0 where
 
 -- at most a piece is gone from the front of what was left
 abbrev pub PieceTaken : Told → Told → Type 0
-PieceTaken before now = (piece : List ℕ) × TakenFrom piece before now × (length piece ≤ 65536)
+PieceTaken before now = (piece : List ℕ) × TakenFrom piece before now × (length piece ≤ max_piece)
 
 -- a piece went behind bytes in which no line ends, and which were no more than a line may have
 pub record PieceBehind (before now : List ℕ) : Type 0 where
   pub piece : List ℕ
   pub behind : now ≡ before ++ piece
-  pub one : length piece ≤ 65536
+  pub one : length piece ≤ max_piece
   pub partial : LacksLf before
   pub short : length before ≤ max_line
 
@@ -129,7 +130,7 @@ pub record GaveLine {S : Type 0} (left : S → Told) (text : List ℕ) (old new 
   pub line : FirstTaken text (lines_to_come old.held (left source_old)) (lines_to_come new.held (left source_new))
   pub raw_line : RawLineTaken text (to_come old.held (left source_old)) (to_come new.held (left source_new))
   pub line_counted : new.given ≡ next_count old.given
-  pub line_bound : length new.held ≤ 65536
+  pub line_bound : length new.held ≤ max_piece
 
 -- No line was given, and no byte was lost or repeated.
 pub record GaveNoLine {S : Type 0} (left : S → Told) (old new : Reading) (source_old source_new : S) : Type 0 where

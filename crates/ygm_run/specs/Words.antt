@@ -1,6 +1,7 @@
 -- What the program's words ask for, and why they are refused. A word is the list of its bytes.
 use Rattle.std.specs.Prelude.{ℕ, List, [], ◌∷◌, Result, Ok, Err, String, bytes_eq, codes, length, map, nat_eq, nat_lt, ◌==◌, string_bytes, if◌then◌else◌}
 use Rattle.std.specs.List.{starts_with}
+use Rattle.ygm_run.specs.Limits.{max_ranks}
 use Rattle.ygm_run.specs.declared.words.UsageKind.{UsageKind}
 use Rattle.ygm_run.specs.declared.words.UsageKind.TheVariants.{NoJob, UnknownJob, UnknownOption, NoFile, TooManyRanks}
 
@@ -24,12 +25,12 @@ files_of (word ∷ words) =
     else if starts_with nat_eq word (codes "--") then Err UnknownOption
     else Ok (word ∷ words)
 
--- the files of which there is one at least, and one for each of 32 ranks at most
+-- the files of which there is one at least, and at most one for each rank
 abbrev pub with_ranks : Result (List (List ℕ)) UsageKind → Result (List (List ℕ)) UsageKind
 with_ranks (Err kind) = Err kind
 with_ranks (Ok files) =
     if length files == 0 then Err NoFile
-    else if nat_lt 32 (length files) then Err TooManyRanks
+    else if nat_lt max_ranks (length files) then Err TooManyRanks
     else Ok files
 
 -- the files that words give to the job tally, or the first refusal that holds

@@ -1,6 +1,7 @@
 //! A rank's file, from its bytes to letters on their way.
 ghost use Rattle.std.specs.Prelude.{◌≡◌, ◌<◌, ◌≤◌, ◌^◌, false, slice_index, IfOk, IfErr, OnOk};
 ghost use Rattle.comm_rank.specs.Fault.{IfCountFull, NeverStopped};
+ghost use Rattle.ygm_run.specs.Limits.{most_letters};
 ghost use Rattle.ygm_run.specs.Carried.{AreReady, sent_counts};
 ghost use Rattle.ygm_run.specs.Fed.{FullAtLine, IsSent, TurnFed};
 ghost use Rattle.ygm_run.specs.Inputs.{IsFull, IsRead, IsRest};
@@ -23,7 +24,7 @@ fn take_turn<S: Source>(
     requires below { rank < world.old.ranks }
     requires ready { AreReady world.old.comms.items world.old.links }
     requires open { reader.old.done ≡ false }
-    requires few { reader.old.given ≤ 2 ^ 56 }
+    requires few { reader.old.given ≤ most_letters }
     ensures fed { IfOk result (TurnFed S.left S.faults world.old.ranks rank world.old.comms.items world.new.comms.items world.old.links world.new.links
         reader.old reader.new source.old source.new) }
     ensures full { IfErr result (λ fault. IfCountFull fault (λ limit.

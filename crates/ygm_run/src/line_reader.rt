@@ -1,7 +1,7 @@
 //! The lines of a source.
 ghost use Rattle.std.specs.Prelude.{◌≡◌, ◌≤◌, [], length, false, IfOk};
 ghost use Rattle.ygm_io.specs.Rising.{next_count};
-ghost use Rattle.ygm_run.specs.Lines.{max_line};
+ghost use Rattle.ygm_run.specs.Limits.{max_line};
 ghost use Rattle.ygm_run.specs.Turns.{ChangedNothing, GaveLine, GaveNoLine, IfLine, IfTooLong, MetEnd, MetTooLong, OnEnd, OnMore, OnNoMemory, OnReadFault, ReadFailed, ReadMore, TookTurn, UnlessLine};
 
 pub use crate::pieces::READING_SPACE;
@@ -20,7 +20,7 @@ pub struct Line {
 
 impl Model for Line {
     ghost use Rattle.std.specs.Prelude.{ℕ, ◌≤◌, List, length};
-    ghost use Rattle.ygm_run.specs.Lines.{max_line};
+    ghost use Rattle.ygm_run.specs.Limits.{max_line};
 
     ghost Value = { List ℕ };
 

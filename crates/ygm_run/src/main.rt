@@ -5,6 +5,7 @@ ghost use Rattle.std.specs.Prelude.{◌≡◌, ◌⊎◌, drop, IfErr, IfOk};
 ghost use Rattle.std.specs.Vec.Iter.{into_iter_items};
 
 mod input;
+pub mod limit_laws;
 pub mod line_laws;
 pub mod line_reader;
 pub mod note;

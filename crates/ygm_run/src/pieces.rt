@@ -1,6 +1,7 @@
 //! The bytes that were read and not given yet.
 ghost use Rattle.std.specs.Prelude.{◌≡◌, ◌+◌, ◌<◌, ◌≤◌, [], ◌∷◌, ◌++◌, length, take, drop, IfSome, IfNone, IfOk, OnOk, OnErr};
-ghost use Rattle.ygm_run.specs.Lines.{LacksLf, text_of, max_line};
+ghost use Rattle.ygm_run.specs.Limits.{max_line};
+ghost use Rattle.ygm_run.specs.Lines.{LacksLf, text_of};
 ghost use Rattle.ygm_run.specs.Held.{AreGathered, AreLastLine, AreOpen, GavePiece, GaveText, IsPartial, IsTooLong, held_in, held_with};
 ghost use Rattle.ygm_run.specs.Turns.{ReadFailed};
 

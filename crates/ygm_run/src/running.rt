@@ -2,9 +2,11 @@
 ghost use Rattle.std.specs.Prelude.{◌≡◌, ◌<◌, ◌≤◌, ◌^◌, ℕ, List, [], Ok, Err, Some, IfErr, OnOk, length, map, slice_get, take};
 ghost use Rattle.ygm_io.specs.Content.{AppendedTo, NothingLeft};
 ghost use Rattle.ygm_io.specs.Rising.{Rose};
-ghost use Rattle.ygm_run.specs.Ending.{EndsBy, FrontAppended, IsDoneIfMemory, IsNoted, JobEnds, OnDone, OnWriteFault, RunEnds, UnlessNoMemory, UnlessUnopened, UnlessWritten, status_of};
+ghost use Rattle.ygm_run.specs.Limits.{max_ranks, most_letters};
+ghost use Rattle.ygm_run.specs.Ending.{EndsBy, FrontAppended, IsDoneIfMemory, IsNoted, OnDone, OnWriteFault, RunEnds, UnlessUnopened, UnlessWritten};
+ghost use Rattle.ygm_run.specs.JobEnds.{JobEnds, OfText, UnlessNoMemory, status_of};
 ghost use Rattle.ygm_run.specs.Inputs.{AreRests};
-ghost use Rattle.ygm_run.specs.Job.{AreGood, AreTold, OfText, lines_of_each, most_letters};
+ghost use Rattle.ygm_run.specs.Job.{AreGood, AreTold, lines_of_each, letters_bound};
 ghost use Rattle.ygm_run.specs.Notes.{FileIsBelow, note_text};
 ghost use Rattle.ygm_run.specs.TallyText.{tally_text};
 ghost use Rattle.ygm_run.specs.Words.{named, order_of, texts_of};
@@ -38,7 +40,7 @@ fn open_all<F: Files>(
     files: &mut F,
     sources: &mut Vec<F::Src>,
 ) -> Result<(), Status>
-    requires few { length names.now ≤ 32 }
+    requires few { length names.now ≤ max_ranks }
     requires none { sources.old.items ≡ [] }
     ensures opened { map F.Src.left sources.new.items ≡ map (F.content files.old) (take (length sources.new.items) (texts_of names.now)) }
     ensures fresh { (rank : ℕ) (source : F.Src) → slice_get sources.new.items rank ≡ Some source → F.Src.faults source ≡ 0 }
@@ -108,7 +110,7 @@ fn finish<S: Source, O: Sink, N: Sink>(
     notes: &mut N,
 ) -> Status
     requires some { 1 ≤ length sources.old }
-    requires few { length sources.old ≤ 32 }
+    requires few { length sources.old ≤ max_ranks }
     requires fresh { (rank : ℕ) (source : S) → slice_get sources.old rank ≡ Some source → S.faults source ≡ 0 }
     ensures ends { JobEnds S.left S.faults (map S.left sources.old) sources.new (Rose (O.faults out.old) (O.faults out.new)) result }
     ensures done { OnDone result (OfText (map S.left sources.old) (λ text. AppendedTo text (O.holds out.old) (O.holds out.new))) }
@@ -133,7 +135,7 @@ fn run_tally<F: Files, O: Sink, N: Sink>(
     notes: &mut N,
 ) -> Ended<F::Src>
     requires some { 1 ≤ length names.now }
-    requires few { length names.now ≤ 32 }
+    requires few { length names.now ≤ max_ranks }
     ensures done { OnDone result.status (OfText (map (F.content files.old) (texts_of names.now)) (λ text. AppendedTo text (O.holds out.old) (O.holds out.new))) }
     ensures front { OnWriteFault result.status (OfText (map (F.content files.old) (texts_of names.now)) (λ text. FrontAppended text (O.holds out.old) (O.holds out.new))) }
     ensures opens_stand { UnlessUnopened result.status (F.faults files.new ≡ F.faults files.old) }
@@ -195,7 +197,7 @@ pub fn run<F: Files, O: Sink, N: Sink>(
     // Words that are accepted, files that all hold text, counts within their limits and devices that don't fail: only
     // memory can be wanting.
     ensures complete { (names bytes : List (List ℕ)) → order_of (texts_of words.now) ≡ Ok names → AreTold (map (F.content files.old) names) bytes
-        → AreGood bytes → most_letters (lines_of_each bytes) ≤ 2 ^ 56
+        → AreGood bytes → letters_bound (lines_of_each bytes) ≤ most_letters
         → (Rose (F.faults files.old) (F.faults files.new) → ⊥) → (Rose (O.faults out.old) (O.faults out.new) → ⊥)
         → ((rank : ℕ) (source : F.Src) → slice_get result.sources.items rank ≡ Some source → F.Src.faults source ≡ 0)
         → IsDoneIfMemory result.status }

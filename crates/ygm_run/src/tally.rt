@@ -2,10 +2,11 @@
 ghost use Rattle.std.specs.Prelude.{◌≡◌, ◌<◌, ◌≤◌, ℕ, List, [], Some, map, length, slice_get, slice_index_or, IfOk, IfErr, OnOk};
 ghost use Rattle.std.specs.Option.{option_map};
 ghost use Rattle.comm_rank.specs.Fault.{NeverStopped};
+ghost use Rattle.ygm_run.specs.Limits.{max_ranks};
 ghost use Rattle.ygm_run.specs.Carried.{AreReady, Carried};
-ghost use Rattle.ygm_run.specs.Ending.{IsFaultOf, JobStops};
+ghost use Rattle.ygm_run.specs.JobEnds.{IsFaultOf, JobStops, OfText};
 ghost use Rattle.ygm_run.specs.Inputs.{AllRead, AreRests};
-ghost use Rattle.ygm_run.specs.Job.{AreTold, OfText, lines_of_each};
+ghost use Rattle.ygm_run.specs.Job.{AreTold, lines_of_each};
 
 use crate::input::read_file;
 use crate::status::InputFault;
@@ -90,7 +91,7 @@ fn read_all<S: Source>(alloc: Global, world: &mut World, sources: &mut [S]) -> R
 /// The text of the sources' lines: of each rank its own source, of which nothing was read yet.
 pub(crate) fn tally<S: Source>(alloc: Global, sources: &mut [S]) -> Result<Vec<u8>, JobFault>
     requires some { 0 < length sources.old }
-    requires few { length sources.old ≤ 32 }
+    requires few { length sources.old ≤ max_ranks }
     requires fresh { (rank : ℕ) (source : S) → slice_get sources.old rank ≡ Some source → S.faults source ≡ 0 }
     ensures text { IfOk result (λ text. OfText (map S.left sources.old) (λ all. text.items ≡ all)) }
     ensures read { OnOk result (AllRead S.left S.faults (map S.left sources.old) sources.new) }

@@ -1,5 +1,6 @@
 //! The words that the program is called with: a job and its files.
 ghost use Rattle.std.specs.Prelude.{◌≡◌, ◌≤◌, Ok, Err, MatchResult, IfOk, length};
+ghost use Rattle.ygm_run.specs.Limits.{max_ranks};
 ghost use Rattle.ygm_run.specs.Notes.{note_line};
 ghost use Rattle.ygm_run.specs.Words.{files_of, kind_text, order_of, texts_of};
 
@@ -58,7 +59,7 @@ pub fn read_words(words: &[String]) -> Result<Order<'_>, UsageKind>
         (λ order. order_of (texts_of words.now) ≡ Ok (texts_of order.names.now))
         (λ kind. order_of (texts_of words.now) ≡ Err kind) }
     ensures some { IfOk result (λ order. 1 ≤ length order.names.now) }
-    ensures few { IfOk result (λ order. length order.names.now ≤ 32) }
+    ensures few { IfOk result (λ order. length order.names.now ≤ max_ranks) }
 {
     let [job, rest @ ..] = words else {
         return Err(UsageKind::NoJob);

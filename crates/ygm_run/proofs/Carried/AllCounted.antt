@@ -24,6 +24,7 @@ use Rattle.comm_rank.specs.Settled.{IsRankOf}
 use Rattle.counting_set.specs.Counting.{Counts, counting_apply, AreCounted}
 use Rattle.counting_set.specs.Owner.{fnv, owner_of_key}
 use Rattle.counting_set.proofs.Counted.{adds_of_one_are_counted}
+use Rattle.ygm_run.specs.Limits.{max_ranks, most_letters}
 use Rattle.ygm_run.specs.Carried.{AreReady, Carried, IsQuiet, kept, letters_of}
 use Rattle.ygm_run.specs.TallyText.{AreCounts, all_lines, times}
 use Rattle.ygm_run.proofs.TallyText.Times.{times-all_lines}
@@ -70,7 +71,7 @@ if_mine : (b : Bool) (f : ℕ → ℕ) (n : ℕ) → sum_upto (λ s. cond b (f s
 if_mine true f n = refl
 if_mine false f n = sum_upto-zero n
 
-module _ (files : List (List (List ℕ))) (ranks : ℕ) (comms : List (Rank Counts)) (links : Plain) (all : length files ≡ ranks) (some : 0 < ranks) (most : ranks ≤ 32) (h : Carried (λ r. get_or files r []) ranks comms links) (ready : AreReady comms links) (quiet : IsQuiet comms links) where
+module _ (files : List (List (List ℕ))) (ranks : ℕ) (comms : List (Rank Counts)) (links : Plain) (all : length files ≡ ranks) (some : 0 < ranks) (most : ranks ≤ max_ranks) (h : Carried (λ r. get_or files r []) ranks comms links) (ready : AreReady comms links) (quiet : IsQuiet comms links) where
   -- a rank, and the letters that ran there
   abbrev at : ℕ → Rank Counts
   at d = get_or comms d (fresh_rank (record { ranks = 1; cores = 1 }) Direct 0 0 [])
@@ -114,9 +115,9 @@ module _ (files : List (List (List ℕ))) (ranks : ℕ) (comms : List (Rank Coun
 
   few : (d : ℕ) → d < ranks → length (counted_at d) < 2 ^ 64
   few d t =
-      let each : (s : ℕ) → s < ranks → sum_by (λ l. 1) (letters_from s (ran d)) ≤ 2 ^ 56 =
+      let each : (s : ℕ) → s < ranks → sum_by (λ l. 1) (letters_from s (ran d)) ≤ most_letters =
       λ s f. omega (arith, sum_by-ones (letters_from s (ran d)), ap length (ran_of s d f t), length-letters_of ranks s d (own s), h.few s) in
-      omega (arith, length-map (ran d) item_of, sum_by-ones (ran d), sum_by-senders (λ l. 1) ranks (ran d) (below d t), sum_upto-le (λ s. sum_by (λ l. 1) (letters_from s (ran d))) (2 ^ 56) ranks each, most)
+      omega (arith, length-map (ran d) item_of, sum_by-ones (ran d), sum_by-senders (λ l. 1) ranks (ran d) (below d t), sum_upto-le (λ s. sum_by (λ l. 1) (letters_from s (ran d))) (most_letters) ranks each, most)
 
   -- an item was counted at its owner as often as it stands among all lines, and nowhere else
   times_at : (x : List ℕ) (d : ℕ) → d < ranks → times x (counted_at d) ≡ cond (eqb (owner_of_key x ranks) d) (times x (all_lines files)) 0
@@ -183,7 +184,7 @@ module _ (files : List (List (List ℕ))) (ranks : ℕ) (comms : List (Rank Coun
 
 -- where each rank sent the lines of its file and no letter waits, what the ranks keep are the counts of all lines
 pub counts_of_carried : (files : List (List (List ℕ))) (ranks : ℕ) (comms : List (Rank Counts)) (links : Plain)
-    → length files ≡ ranks → 0 < ranks → ranks ≤ 32
+    → length files ≡ ranks → 0 < ranks → ranks ≤ max_ranks
     → Carried (λ r. get_or files r []) ranks comms links
     → AreReady comms links
     → IsQuiet comms links

@@ -9,6 +9,7 @@ use Rattle.counting_set.specs.Owner.{owner_of_key}
 use Rattle.list_facts.proofs.Equal.{bytes_eq-other, cases_same}
 use Rattle.list_facts.proofs.Filters.{filter_fewer}
 use Rattle.counting_set.proofs.Sums.{add_letter_adds}
+use Rattle.ygm_run.specs.Limits.{max_line}
 use Rattle.ygm_run.specs.Carried.{letters_of}
 use Rattle.ygm_run.specs.TallyText.{times}
 use Rattle.ygm_run.proofs.TallyText.Times.{times-cons}
@@ -27,7 +28,7 @@ AddsOne l = adds l ≡ Some (item_of l, 1)
 
 -- a line has at most as many bytes as a line may have
 abbrev pub IsShort : List ℕ → Type 0
-IsShort line = length line ≤ 1000000
+IsShort line = length line ≤ max_line
 
 pub item_of-add_letter : (to from : ℕ) (line : List ℕ) → IsShort line → item_of (add_letter to from line) ≡ line
 item_of-add_letter to from line short = ap item_in (add_letter_adds to from line (omega (arith, short)))

@@ -1,5 +1,5 @@
 -- The cause of an ending, by other causes.
-use Rattle.std.proofs.Common.{◌≡◌, ℕ, zero, suc, ◌+◌, ◌++◌, ◌<◌, ◌≤◌, ◌^◌, List, [], ◌∷◌, Some, None, Option, Result, Ok, Err, IfSome, length, map, take, get_or, slice_get, refl, ap, sym, ◌∙◌, subst, arith, inl, inr}
+use Rattle.std.proofs.Common.{◌≡◌, ℕ, zero, suc, ◌+◌, ◌++◌, ◌<◌, ◌≤◌, List, [], ◌∷◌, Some, None, Option, Result, Ok, Err, IfSome, length, map, take, get_or, slice_get, refl, ap, sym, ◌∙◌, subst, arith, inl, inr}
 use Rattle.std.specs.Option.{option_map}
 use Rattle.std.proofs.lemmas.List.{length-map, map-append}
 use Rattle.std.proofs.lemmas.List.Folds.{length-flat_map-take}
@@ -12,10 +12,12 @@ use Rattle.ygm_run.specs.declared.status.Status.TheVariants.{Done, Usage, OpenFa
 use Rattle.ygm_run.specs.declared.tally.JobFault.{JobFault}
 use Rattle.ygm_run.specs.declared.tally.JobFault.TheVariants.{Input as JobInput, CountFull as JobFull, NoMemory as JobNoMemory}
 use Rattle.ygm_run.specs.declared.words.UsageKind.{UsageKind}
-use Rattle.ygm_run.specs.Ending.{EndsBy, IsDoneIfMemory, IsFirstUnopened, IsNoted, JobEnds, OnDone, Opened, RunEnds, UnlessNoMemory, UnlessWritten, status_of}
+use Rattle.ygm_run.specs.Ending.{EndsBy, IsDoneIfMemory, IsFirstUnopened, IsNoted, OnDone, Opened, RunEnds, UnlessWritten}
+use Rattle.ygm_run.specs.JobEnds.{JobEnds, UnlessNoMemory, status_of}
 use Rattle.list_facts.proofs.Places.{same_item}
 use Rattle.ygm_run.specs.Inputs.{AllRead, AreRests, IsFullAtRank, IsLowestFault, IsRead, IsRest, good_lines}
-use Rattle.ygm_run.specs.Job.{AreGood, AreTold, lines_of_each, most_letters}
+use Rattle.ygm_run.specs.Job.{AreGood, AreTold, lines_of_each, letters_bound}
+use Rattle.ygm_run.specs.Limits.{most_letters}
 use Rattle.ygm_run.specs.Lines.{first_too_long, lines_of, raw_lines, text_of}
 use Rattle.ygm_run.specs.Notes.{note_text}
 use Rattle.ygm_run.specs.TallyText.{all_lines}
@@ -197,7 +199,7 @@ module _ {S : Type 0} (left : S → Told) (count : S → ℕ) where
 
   -- Completeness: nothing fails, all lines are good and few enough.
   pub run_complete : (order : Result (List (List ℕ)) UsageKind) (content : List ℕ → Told) (sources : List S) (opening writing : Type 0) (status : Status) → RunEnds left count order content sources opening writing status
-      → (names bytes : List (List ℕ)) → order ≡ Ok names → AreTold (map content names) bytes → AreGood bytes → most_letters (lines_of_each bytes) ≤ 2 ^ 56 → (opening → ⊥) → (writing → ⊥)
+      → (names bytes : List (List ℕ)) → order ≡ Ok names → AreTold (map content names) bytes → AreGood bytes → letters_bound (lines_of_each bytes) ≤ most_letters → (opening → ⊥) → (writing → ⊥)
       → ((rank : ℕ) (source : S) → slice_get sources rank ≡ Some source → count source ≡ 0) → IsDoneIfMemory status
   run_complete order content sources opening writing Done ends names bytes is told good few no_open no_write calm = inl refl
   run_complete order content sources opening writing (Usage kind) ends names bytes is told good few no_open no_write calm = absurd (refused order names kind is ends.0) where
@@ -217,5 +219,5 @@ module _ {S : Type 0} (left : S → Told) (count : S → ℕ) where
       let same = same_names order names ends.0 is ends.1 in
       let full = subst (λ ns. IsFullAtRank left count (map content ns) sources rank at) same ends.3 in
       let b = bytes_of bytes (map content names) rank full.held told full.held_is in
-      let many = if_at full.held b.0 (λ w. 2 ^ 56 < length (good_lines (raw_lines w))) b.2 full.full.lines in
+      let many = if_at full.held b.0 (λ w. most_letters < length (good_lines (raw_lines w))) b.2 full.full.lines in
       absurd (omega (arith, many, few, few_lines bytes rank b.0 b.1))

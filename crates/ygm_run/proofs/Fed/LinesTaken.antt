@@ -7,7 +7,8 @@ use Rattle.std.proofs.lemmas.Option.{IfSome_then}
 use Rattle.list_facts.proofs.Elements.{all_append}
 use Rattle.ygm_io.specs.Content.{Told, TakenFrom, NothingLeft}
 use Rattle.ygm_run.specs.Fed.{LinesTaken, EndedWith}
-use Rattle.ygm_run.specs.Lines.{LacksLf, ended_lines, first_too_long, lines_of, max_line, raw_lines, text_of, StartsTooLong}
+use Rattle.ygm_run.specs.Limits.{max_line}
+use Rattle.ygm_run.specs.Lines.{LacksLf, ended_lines, first_too_long, lines_of, raw_lines, text_of, StartsTooLong}
 use Rattle.ygm_run.specs.Turns.{CutOff, to_come}
 use Rattle.ygm_run.proofs.Lines.RawLines.{raw_lines-at_lf, raw_lines-at_end, ended_are_lines, ended_lines-append, ended_lines-none}
 use Rattle.ygm_run.specs.declared.status.InputFault.{InputFault}

@@ -2,7 +2,8 @@
 use Rattle.std.proofs.Common.{◌≡◌, ◌≢◌, ◌+◌, ◌<◌, ◌≤◌, ℕ, List, ◌++◌, length, length-append, take, drop, ap, subst, ◌∙◌, sym, arith}
 use Rattle.std.proofs.lemmas.List.{append_assoc, length-take-le, take-append-drop}
 use Rattle.std.proofs.lemmas.List.Elements.{All-append}
-use Rattle.ygm_run.specs.Lines.{LacksLf, StartsTooLong, max_line}
+use Rattle.ygm_run.specs.Limits.{max_line}
+use Rattle.ygm_run.specs.Lines.{LacksLf, StartsTooLong}
 use Rattle.ygm_run.proofs.Lines.RawLines.{starts_too_long}
 
 -- the carry and what stands before the first LF are too long

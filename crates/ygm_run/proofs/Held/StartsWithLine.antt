@@ -4,7 +4,8 @@ use Rattle.std.proofs.lemmas.List.{append_assoc, length-take}
 use Rattle.std.proofs.lemmas.List.Elements.{All-append, All-take}
 use Rattle.std.specs.Prelude.{slice_range}
 use Rattle.list_facts.proofs.Slices.{drop-slice_range}
-use Rattle.ygm_run.specs.Lines.{LacksLf, text_of, max_line}
+use Rattle.ygm_run.specs.Limits.{max_line}
+use Rattle.ygm_run.specs.Lines.{LacksLf, text_of}
 use Rattle.ygm_run.specs.Held.{StartsWithLine}
 use Rattle.ygm_run.proofs.Lines.TextOf.{length-text_of}
 

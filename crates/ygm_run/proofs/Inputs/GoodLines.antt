@@ -4,7 +4,8 @@ use Rattle.std.specs.Option.{option_map}
 use Rattle.std.specs.List.{AllByRecursion}
 use Rattle.std.proofs.lemmas.Bool.{cases_lt, le-ltb, lt-ltb}
 use Rattle.ygm_run.specs.Inputs.{good_lines}
-use Rattle.ygm_run.specs.Lines.{max_line, first_too_long, AreShort, IsFirstTooLong}
+use Rattle.ygm_run.specs.Limits.{max_line}
+use Rattle.ygm_run.specs.Lines.{first_too_long, AreShort, IsFirstTooLong}
 use Rattle.ygm_run.proofs.Lines.FirstTooLong.{short_of}
 
 -- short lines stand before any that is too long

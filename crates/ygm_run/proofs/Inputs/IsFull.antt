@@ -8,7 +8,8 @@ use Rattle.comm_rank.specs.Fault.{IfCountFull}
 use Rattle.comm_rank.specs.declared.fault.CommFault.TheVariants.{CountFull, NoMemory, Stopped}
 use Rattle.ygm_run.specs.Fed.{LinesTaken, HasLine}
 use Rattle.ygm_run.specs.Inputs.{good_lines}
-use Rattle.ygm_run.specs.Lines.{max_line, raw_lines}
+use Rattle.ygm_run.specs.Limits.{max_line}
+use Rattle.ygm_run.specs.Lines.{raw_lines}
 use Rattle.ygm_run.proofs.Fed.LinesTaken.{line_cut, lines_more, whole_lines}
 use Rattle.ygm_run.proofs.Inputs.GoodLines.{good_before}
 

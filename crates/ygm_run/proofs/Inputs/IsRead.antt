@@ -1,5 +1,5 @@
 -- How a file was read, once its reading has ended.
-use Rattle.std.proofs.Common.{◌≡◌, ℕ, ◌≤◌, ◌^◌, true, false, List, [], ◌++◌, Some, None, Option, IfSome, length, refl, sym, ap, ◌∙◌, subst, arith}
+use Rattle.std.proofs.Common.{◌≡◌, ℕ, ◌≤◌, true, false, List, [], ◌++◌, Some, None, Option, IfSome, length, refl, sym, ap, ◌∙◌, subst, arith}
 use Rattle.std.specs.List.{AllByRecursion}
 use Rattle.std.proofs.lemmas.Bool.{false≢true}
 use Rattle.std.proofs.lemmas.List.{append-nil}
@@ -9,7 +9,8 @@ use Rattle.ygm_run.specs.declared.status.InputFault.{InputFault}
 use Rattle.ygm_run.specs.declared.status.InputFault.TheVariants.{Read, Bad}
 use Rattle.ygm_run.specs.Fed.{LinesTaken, EndedWith}
 use Rattle.ygm_run.specs.Inputs.{IsRead, NothingBehind}
-use Rattle.ygm_run.specs.Lines.{max_line, ended_lines, raw_lines, first_too_long}
+use Rattle.ygm_run.specs.Limits.{max_line, max_piece, most_letters}
+use Rattle.ygm_run.specs.Lines.{ended_lines, raw_lines, first_too_long}
 use Rattle.ygm_run.specs.Reading.{Reading}
 use Rattle.ygm_run.specs.Turns.{to_come}
 use Rattle.ygm_run.proofs.Fed.LinesTaken.{all_given, front_read, too_long_given}
@@ -22,7 +23,7 @@ not_ended fault reader left faults faults_now going done = absurd (false≢true 
 
 -- How a file was read, once its reading has ended.
 pub was_read : {S : Type 0} (left : S → Told) (count : S → ℕ) (raws : List (List ℕ)) (reader : Reading) (before : Told) (source : S) (fault : Option InputFault) → AllByRecursion (λ raw. length raw ≤ max_line) raws
-    → LinesTaken raws before (to_come reader.held (left source)) → reader.given ≡ length raws → reader.given ≤ 2 ^ 56 → EndedWith fault reader (left source) 0 (count source)
+    → LinesTaken raws before (to_come reader.held (left source)) → reader.given ≡ length raws → reader.given ≤ most_letters → EndedWith fault reader (left source) 0 (count source)
     → NothingBehind left count source fault → IsRead left count before source fault
 was_read left count raws reader before source None short taken given bound ended behind = record {
   read = ((λ e. absurd cc), (λ lt. absurd (omega (arith, lt, ended.2))));
@@ -44,7 +45,7 @@ was_read left count raws reader before source (Some Read) short taken given boun
   stops = λ line why e. absurd cc;
   few = λ none. absurd (omega (arith, none, ended.0));
 } where
-  read_before : (front : List ℕ) × TakenFrom front before (left source) × (first_too_long (raw_lines front) ≡ None) × (ended_lines front ≤ 2 ^ 56)
+  read_before : (front : List ℕ) × TakenFrom front before (left source) × (first_too_long (raw_lines front) ≡ None) × (ended_lines front ≤ most_letters)
   read_before =
       let f = front_read raws reader.held [] reader.held before (left source) (sym (append-nil reader.held)) ended.1 ended.2 short taken in
       (f.0, subst (λ w. TakenFrom w before (left source)) (append-nil f.0) f.1, f.2, omega (arith, f.3, given, bound))
@@ -60,7 +61,7 @@ was_read left count raws reader before source (Some (Bad line why)) short taken 
   bad_line_is : IfSome before (λ bytes. Some line ≡ first_too_long (raw_lines bytes))
   bad_line_is = subst (λ k. IfSome before (λ bytes. Some k ≡ first_too_long (raw_lines bytes))) (omega (arith, given, ended.1)) (too_long_given raws reader.held before (left source) short taken ended.0)
 
-  stopped : (front piece : List ℕ) × (length piece ≤ 65536) × TakenFrom (front ++ piece) before (left source) × (first_too_long (raw_lines front) ≡ None)
+  stopped : (front piece : List ℕ) × (length piece ≤ max_piece) × TakenFrom (front ++ piece) before (left source) × (first_too_long (raw_lines front) ≡ None)
   stopped =
       let last = ended.4 in
       let f = front_read raws ended.3 last.piece reader.held before (left source) last.behind last.partial last.short short taken in

@@ -6,7 +6,8 @@ use Rattle.std.proofs.lemmas.Bool.{lt-ltb}
 use Rattle.std.proofs.lemmas.Bool.Decides.{eqb_tells}
 use Rattle.std.specs.List.{AllByRecursion}
 use Rattle.std.specs.Option.{option_map}
-use Rattle.ygm_run.specs.Lines.{raw_lines, onto_first, ended_lines, LacksLf, StartsTooLong, first_too_long, max_line}
+use Rattle.ygm_run.specs.Limits.{max_line}
+use Rattle.ygm_run.specs.Lines.{raw_lines, onto_first, ended_lines, LacksLf, StartsTooLong, first_too_long}
 
 not_lf : (byte : ℕ) → byte ≢ 10 → eqb byte 10 ≡ false
 not_lf byte h = ⊎_elim (λ t. absurd (h t.1)) (λ f. f.0) (eqb_tells byte 10)

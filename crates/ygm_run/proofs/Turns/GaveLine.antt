@@ -6,6 +6,7 @@ use Rattle.ygm_io.specs.Content.{Told, TakenFrom, NothingLeft}
 use Rattle.ygm_run.specs.Lines.{text_of}
 use Rattle.ygm_run.specs.Held.{StartsWithLine, AreLastLine}
 use Rattle.ygm_io.specs.Rising.{next_count}
+use Rattle.ygm_run.specs.Limits.{max_piece}
 use Rattle.ygm_run.specs.Reading.{Reading}
 use Rattle.ygm_run.specs.Turns.{to_come, lines_to_come, FirstTaken, GaveLine, RawLineTaken, IfLine}
 use Rattle.ygm_run.specs.declared.line_reader.Got.{Got}
@@ -57,7 +58,7 @@ texts_taken text bytes held before now line =
 
 -- the line was handed out, from bytes that are held
 pub gave_line : {S : Type 0} (left : S → Told) (got : Got) (text bytes held : List ℕ) (old new : Reading) (before now : S) → got ≡ Line text → old.held ≡ bytes → new.held ≡ held
-    → new.given ≡ next_count old.given → length held ≤ 65536 → RawLineTaken text (to_come bytes (left before)) (to_come held (left now)) → IfLine (Ok got) (λ line. GaveLine left line old new before now)
+    → new.given ≡ next_count old.given → length held ≤ max_piece → RawLineTaken text (to_come bytes (left before)) (to_come held (left now)) → IfLine (Ok got) (λ line. GaveLine left line old new before now)
 gave_line left got text bytes held old new before now is was held_is counted bound taken =
     let raw : RawLineTaken text (to_come old.held (left before)) (to_come new.held (left now)) = rw (was, held_is) taken in
     subst (λ g. IfLine (Ok g) (λ line. GaveLine left line old new before now)) (sym is)

@@ -2,7 +2,7 @@ use Rattle.std.proofs.Common.{◌<◌, ◌∙◌, length, get_or, refl, ap, sym,
 use Rattle.std.specs.Option.{option_or}
 use Rattle.std.proofs.lemmas.Option.{slice_get-get_or}
 use Rattle.ygm_run.specs.Fed.{IsSent}
-use Rattle.ygm_run.proofs.Ending.JobStops.{stops_full}
+use Rattle.ygm_run.proofs.JobEnds.StopsBy.{stops_full}
 use Rattle.ygm_run.proofs.Inputs.ReadSoFar.{ReadSoFar, read_none, read_more, rests_more, unsent_so_far, all_read, all_sent, lowest_told, full_at}
 use Rattle.ygm_run.proofs.tally.read_all.Goals as goal
 

@@ -4,7 +4,7 @@ use Rattle.comm_rank.specs.declared.fault.CommFault.{CommFault}
 use Rattle.comm_rank.specs.declared.fault.CommFault.TheVariants.{CountFull as CommFull, NoMemory as CommNoMemory, Stopped as CommStopped}
 use Rattle.ygm_run.specs.declared.status.InputFault.{InputFault}
 use Rattle.ygm_run.specs.declared.tally.JobFault.{JobFault}
-use Rattle.ygm_run.specs.Ending.{StopsBy, IsFaultOf}
+use Rattle.ygm_run.specs.JobEnds.{IsFaultOf, StopsBy}
 use Rattle.comm_rank.specs.Fault.{IfCountFull}
 
 -- a rank's full count is the job's
