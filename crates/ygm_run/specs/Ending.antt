@@ -79,25 +79,25 @@ abbrev pub Opened : {S : Type 0} → Result (List (List ℕ)) UsageKind → List
 Opened order sources P = (names : List (List ℕ)) × (order ≡ Ok names) × (length sources ≡ length names) × P names
 
 -- The file of this number is the first that couldn't be opened: those before it were, and not a byte of them was read.
-pub record IsFirstUnopened {S : Type 0} (left : S → Told) (count : S → ℕ) (content : List ℕ → Told) (names : List (List ℕ)) (sources : List S) (file : ℕ) : Type 0 where
+pub record IsFirstUnopened {S : Type 0} (left : S → Told) (faults : S → ℕ) (content : List ℕ → Told) (names : List (List ℕ)) (sources : List S) (file : ℕ) : Type 0 where
   pub within : file < length names
   pub opened_before : length sources ≡ file
   pub unread : map left sources ≡ map content (take file names)
-  pub no_fault : (rank : ℕ) (source : S) → slice_get sources rank ≡ Some source → count source ≡ 0
+  pub no_fault : (rank : ℕ) (source : S) → slice_get sources rank ≡ Some source → faults source ≡ 0
 
 -- Why a run ended so. Each refusal stands only where none before it does: the words are refused, or were accepted; a file
 -- couldn't be opened, or each was; a rank's count is full; the input of the lowest rank with a fault failed, or all were
 -- read to their ends; the text couldn't be written, or was. `order` is what the words ask for, `content` what the files
 -- hold; a source tells what is left and its count of faults.
 abbrev pub RunEnds : {S : Type 0} → (S → Told) → (S → ℕ) → Result (List (List ℕ)) UsageKind → (List ℕ → Told) → List S → Type 0 → Type 0 → Status → Type 0
-RunEnds left count order content sources opening writing =
+RunEnds left faults order content sources opening writing =
     EndsBy
     (λ kind. (order ≡ Err kind) × (sources ≡ []))
-    (λ file. (names : List (List ℕ)) × (order ≡ Ok names) × IsFirstUnopened left count content names sources file × opening)
-    (λ rank at. Opened order sources (λ names. IsFullAtRank left count (map content names) sources rank at))
-    (λ rank found. Opened order sources (λ names. IsLowestFault left count (map content names) sources rank found))
-    (Opened order sources (λ names. AllRead left count (map content names) sources × writing))
-    (Opened order sources (λ names. AllRead left count (map content names) sources))
+    (λ file. (names : List (List ℕ)) × (order ≡ Ok names) × IsFirstUnopened left faults content names sources file × opening)
+    (λ rank at. Opened order sources (λ names. IsFullAtRank left faults (map content names) sources rank at))
+    (λ rank found. Opened order sources (λ names. IsLowestFault left faults (map content names) sources rank found))
+    (Opened order sources (λ names. AllRead left faults (map content names) sources × writing))
+    (Opened order sources (λ names. AllRead left faults (map content names) sources))
 
 -- the run is done, or memory was wanting
 abbrev pub IsDoneIfMemory : Status → Type 0

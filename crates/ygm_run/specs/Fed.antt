@@ -20,9 +20,9 @@ with_lines own rank lines other = if other == rank then own other ++ lines else 
 
 -- these raw lines are gone from the front of the bytes, and go before those of any front of what is to come still
 pub record LinesTaken (raws : List (List ℕ)) (before now : Told) : Type 0 where
-  pub given : List ℕ
-  pub taken : TakenFrom given before now
-  pub lines : (front later : List ℕ) → now ≡ Some (front ++ later) → raw_lines (given ++ front) ≡ raws ++ raw_lines front
+  pub bytes : List ℕ
+  pub taken : TakenFrom bytes before now
+  pub lines : (front later : List ℕ) → now ≡ Some (front ++ later) → raw_lines (bytes ++ front) ≡ raws ++ raw_lines front
 
 -- The world was given lines of a rank: they are on their way, and were the first that were to come. None was too long.
 pub record Fed (ranks rank : ℕ) (before after : List (Rank Counts)) (old new : Plain) (reader reader_now : Reading) (left left_now : Told) : Type 0 where
@@ -54,19 +54,19 @@ pub record IsSent (ranks rank : ℕ) (before after : List (Rank Counts)) (old ne
   pub all : fault ≡ None → IfSome left (λ bytes. lines ≡ lines_of bytes)
 
 -- What a turn of a rank's reader did. Where the reader is done then, all was read or this fault was met.
-pub record TurnFed {S : Type 0} (left : S → Told) (count : S → ℕ) (ranks rank : ℕ) (before after : List (Rank Counts)) (old new : Plain) (reader reader_now : Reading) (source source_now : S) (fault : Option InputFault) : Type 0 where
+pub record TurnFed {S : Type 0} (left : S → Told) (faults : S → ℕ) (ranks rank : ℕ) (before after : List (Rank Counts)) (old new : Plain) (reader reader_now : Reading) (source source_now : S) (fault : Option InputFault) : Type 0 where
   pub ready : AreReady after new
   pub fed : Fed ranks rank before after old new reader reader_now (left source) (left source_now)
   pub sent : reader_now.given + slice_index (sent_counts before) rank ≡ reader.given + slice_index (sent_counts after) rank
   pub bound : slice_index (sent_counts before) rank ≤ most_letters → slice_index (sent_counts after) rank ≤ most_letters
   pub nearer : reader_now.done ≡ false → turns_left (slice_index (sent_counts after) rank) reader_now.held < turns_left (slice_index (sent_counts before) rank) reader.held
-  pub ended : reader_now.done ≡ true → EndedWith fault reader_now (left source_now) (count source) (count source_now)
-  pub going_on : reader_now.done ≡ false → count source_now ≡ count source
+  pub ended : reader_now.done ≡ true → EndedWith fault reader_now (left source_now) (faults source) (faults source_now)
+  pub going_on : reader_now.done ≡ false → faults source_now ≡ faults source
   pub failed_read_took_nothing : fault ≡ Some Read → left source ≡ left source_now
 
 -- A turn found a line for which the rank's count has no room, with the limit that its counter gave.
-pub record FullAtLine {S : Type 0} (left : S → Told) (count : S → ℕ) (limit sent : ℕ) (reader : Reading) (source source_now : S) : Type 0 where
+pub record FullAtLine {S : Type 0} (left : S → Told) (faults : S → ℕ) (limit sent : ℕ) (reader : Reading) (source source_now : S) : Type 0 where
   pub limit_is : limit ≡ most_letters
   pub many : most_letters ≤ sent
-  pub no_read_failed : count source_now ≡ count source
+  pub no_read_failed : faults source_now ≡ faults source
   pub line : HasLine (to_come reader.held (left source))

@@ -7,12 +7,12 @@ use Rattle.ygm_run.specs.Limits.{max_line}
 use Rattle.ygm_run.specs.Lines.{text_of, LacksLf, StartsTooLong}
 
 -- the bytes of the piece that was read last, without those that were given
-abbrev pub waiting_in : Pieces → List ℕ
-waiting_in pieces = slice_range pieces.buffer.items pieces.start pieces.end
+abbrev pub buffered_in : Pieces → List ℕ
+buffered_in pieces = slice_range pieces.buffer.items pieces.start pieces.end
 
 -- the bytes that were read and not given
 abbrev pub held_in : Pieces → List ℕ
-held_in pieces = pieces.carry.items ++ waiting_in pieces
+held_in pieces = pieces.carry.items ++ buffered_in pieces
 
 -- these and the first bytes of the buffer, which were read after them
 abbrev pub held_with : ℕ → Pieces → List ℕ

@@ -6,8 +6,8 @@ use Rattle.ygm_run.specs.Lines.{first_too_long, lines_of, raw_lines}
 use Rattle.ygm_run.specs.TallyText.{all_lines}
 
 -- all of the sources tell, these bytes
-abbrev pub AreTold : List Told → List (List ℕ) → Type 0
-AreTold lefts bytes = lefts ≡ map Some bytes
+abbrev pub AreExposed : List Told → List (List ℕ) → Type 0
+AreExposed lefts bytes = lefts ≡ map Some bytes
 
 -- the lines of each of the files
 abbrev pub lines_of_each : List (List ℕ) → List (List (List ℕ))

@@ -11,17 +11,17 @@ use Rattle.ygm_run.specs.declared.tally.JobFault.{JobFault}
 use Rattle.ygm_run.specs.declared.tally.JobFault.TheVariants.{Input as JobInput, CountFull as JobFull, NoMemory as JobNoMemory}
 use Rattle.ygm_run.specs.Inputs.{AllRead, IsFullAtRank, IsLowestFault}
 use Rattle.ygm_run.specs.Ending.{EndsBy}
-use Rattle.ygm_run.specs.Job.{AreTold, lines_of_each}
+use Rattle.ygm_run.specs.Job.{AreExposed, lines_of_each}
 use Rattle.ygm_run.specs.TallyText.{tally_text}
 
 -- a fact of the job's text, where the files tell their bytes
 abbrev pub OfText : List Told → (List ℕ → Type 0) → Type 0
-OfText helds P = (bytes : List (List ℕ)) → AreTold helds bytes → P (tally_text (lines_of_each bytes))
+OfText contents P = (bytes : List (List ℕ)) → AreExposed contents bytes → P (tally_text (lines_of_each bytes))
 
 -- why the job ended so over these files, each of which was opened
 abbrev pub JobEnds : {S : Type 0} → (S → Told) → (S → ℕ) → List Told → List S → Type 0 → Status → Type 0
-JobEnds left count helds sources writing =
-    EndsBy (λ _. ⊥) (λ _. ⊥) (IsFullAtRank left count helds sources) (IsLowestFault left count helds sources) (AllRead left count helds sources × writing) (AllRead left count helds sources)
+JobEnds left faults contents sources writing =
+    EndsBy (λ _. ⊥) (λ _. ⊥) (IsFullAtRank left faults contents sources) (IsLowestFault left faults contents sources) (AllRead left faults contents sources × writing) (AllRead left faults contents sources)
 
 -- a status other than want of memory
 abbrev pub UnlessNoMemory : Status → Type 0 → Type 0
@@ -49,7 +49,7 @@ StopsBy full fault JobNoMemory = ⊤
 
 -- why the job over these files has no text
 abbrev pub JobStops : {S : Type 0} → (S → Told) → (S → ℕ) → List Told → List S → JobFault → Type 0
-JobStops left count helds sources = StopsBy (IsFullAtRank left count helds sources) (IsLowestFault left count helds sources)
+JobStops left faults contents sources = StopsBy (IsFullAtRank left faults contents sources) (IsLowestFault left faults contents sources)
 
 -- a rank's fault as one of the job; no rank's is a stop
 abbrev pub IsFaultOf : ℕ → CommFault → JobFault → Type 0

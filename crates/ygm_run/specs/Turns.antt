@@ -12,8 +12,8 @@ use Rattle.ygm_run.specs.Lines.{lines_of, text_of, LacksLf, StartsTooLong}
 use Rattle.ygm_run.specs.Reading.{Reading}
 
 -- what a turn returns
-abbrev pub Answer : Type 0
-Answer = Result Got LineFault
+abbrev pub TurnResult : Type 0
+TurnResult = Result Got LineFault
 
 -- the bytes that were read and not given, and behind them those that are left
 abbrev pub to_come : List ℕ → Told → Told
@@ -54,59 +54,59 @@ pub record PieceBehind (before now : List ℕ) : Type 0 where
 -- ---- facts by what a turn returns
 
 -- a fact of the line that was given
-abbrev pub IfLine : Answer → (List ℕ → Type 0) → Type 0
+abbrev pub IfLine : TurnResult → (List ℕ → Type 0) → Type 0
 IfLine (Ok (Line line)) P = P line
 IfLine (Ok More) P = ⊤
 IfLine (Ok End) P = ⊤
 IfLine (Err fault) P = ⊤
 
 -- a fact where none was given
-abbrev pub UnlessLine : Answer → Type 0 → Type 0
+abbrev pub UnlessLine : TurnResult → Type 0 → Type 0
 UnlessLine (Ok (Line line)) P = ⊤
 UnlessLine (Ok More) P = P
 UnlessLine (Ok End) P = P
 UnlessLine (Err fault) P = P
 
-abbrev pub OnMore : Answer → Type 0 → Type 0
+abbrev pub OnMore : TurnResult → Type 0 → Type 0
 OnMore (Ok (Line line)) P = ⊤
 OnMore (Ok More) P = P
 OnMore (Ok End) P = ⊤
 OnMore (Err fault) P = ⊤
 
-abbrev pub OnEnd : Answer → Type 0 → Type 0
+abbrev pub OnEnd : TurnResult → Type 0 → Type 0
 OnEnd (Ok (Line line)) P = ⊤
 OnEnd (Ok More) P = ⊤
 OnEnd (Ok End) P = P
 OnEnd (Err fault) P = ⊤
 
 -- a fact of the number of the line that is too long
-abbrev pub IfTooLong : Answer → (ℕ → Type 0) → Type 0
+abbrev pub IfTooLong : TurnResult → (ℕ → Type 0) → Type 0
 IfTooLong (Ok got) P = ⊤
 IfTooLong (Err ReadFault) P = ⊤
 IfTooLong (Err (LineTooLong number)) P = P number
 IfTooLong (Err NoMemory) P = ⊤
 
-abbrev pub OnReadFault : Answer → Type 0 → Type 0
+abbrev pub OnReadFault : TurnResult → Type 0 → Type 0
 OnReadFault (Ok got) P = ⊤
 OnReadFault (Err ReadFault) P = P
 OnReadFault (Err (LineTooLong number)) P = ⊤
 OnReadFault (Err NoMemory) P = ⊤
 
 -- a fact unless a read failed
-abbrev pub UnlessReadFault : Answer → Type 0 → Type 0
+abbrev pub UnlessReadFault : TurnResult → Type 0 → Type 0
 UnlessReadFault (Ok got) P = P
 UnlessReadFault (Err ReadFault) P = ⊤
 UnlessReadFault (Err (LineTooLong number)) P = P
 UnlessReadFault (Err NoMemory) P = P
 
-abbrev pub OnNoMemory : Answer → Type 0 → Type 0
+abbrev pub OnNoMemory : TurnResult → Type 0 → Type 0
 OnNoMemory (Ok got) P = ⊤
 OnNoMemory (Err ReadFault) P = ⊤
 OnNoMemory (Err (LineTooLong number)) P = ⊤
 OnNoMemory (Err NoMemory) P = P
 
 -- whether there is no other turn
-abbrev pub is_last : Answer → Bool
+abbrev pub is_last : TurnResult → Bool
 is_last (Ok (Line line)) = false
 is_last (Ok More) = false
 is_last (Ok End) = true
@@ -115,7 +115,7 @@ is_last (Err (LineTooLong number)) = true
 is_last (Err NoMemory) = false
 
 -- neither a line nor a promise of one: the end, or a fault that says nothing of the lines
-abbrev pub EndsOrFails : Answer → Type 0
+abbrev pub EndsOrFails : TurnResult → Type 0
 EndsOrFails (Ok (Line line)) = ⊥
 EndsOrFails (Ok More) = ⊥
 EndsOrFails (Ok End) = ⊤
@@ -156,8 +156,8 @@ pub record MetTooLong {S : Type 0} (left : S → Told) (number : ℕ) (old new :
   pub too_long_number : number ≡ next_count old.given
 
 -- The read failed, and took nothing. What is held has no whole line, and is no line that is too long.
-pub record ReadFailed {S : Type 0} (left : S → Told) (count : S → ℕ) (held : List ℕ) (source_old source_new : S) : Type 0 where
-  pub cause : Rose (count source_old) (count source_new)
+pub record ReadFailed {S : Type 0} (left : S → Told) (faults : S → ℕ) (held : List ℕ) (source_old source_new : S) : Type 0 where
+  pub cause : Rose (faults source_old) (faults source_new)
   pub read_fault_takes_nothing : left source_new ≡ left source_old
   pub read_fault_is_partial : LacksLf held × (length held ≤ max_line)
 
@@ -167,12 +167,12 @@ pub record ChangedNothing {S : Type 0} (old new : Reading) (source_old source_ne
   pub no_memory_source : source_new ≡ source_old
 
 -- what holds after each turn
-pub record TookTurn {S : Type 0} (left : S → Told) (count : S → ℕ) (answer : Answer) (old new : Reading) (source_old source_new : S) : Type 0 where
+pub record TookTurn {S : Type 0} (left : S → Told) (faults : S → ℕ) (result : TurnResult) (old new : Reading) (source_old source_new : S) : Type 0 where
   -- where nothing is to come, there is no other result but a fault of reading or of memory
-  pub end_if_nothing_to_come : to_come old.held (left source_old) ≡ Some [] → EndsOrFails answer
-  pub faults_stand : UnlessReadFault answer (count source_new ≡ count source_old)
-  pub never_falls : count source_old ≤ count source_new
-  pub done : new.done ≡ is_last answer
+  pub end_if_nothing_to_come : to_come old.held (left source_old) ≡ Some [] → EndsOrFails result
+  pub faults_stand : UnlessReadFault result (faults source_new ≡ faults source_old)
+  pub never_falls : faults source_old ≤ faults source_new
+  pub done : new.done ≡ is_last result
   -- at most a piece of what remained was taken, from its front
   pub rest : PieceTaken (left source_old) (left source_new)
   pub tells : is_some (left source_new) ≡ is_some (left source_old)

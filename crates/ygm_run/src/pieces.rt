@@ -55,11 +55,11 @@ impl Pieces {
         ensures stays { IfOk result (λ found. IfNone found (self.new ≡ self.old)) }
         ensures err { OnErr result (self.new ≡ self.old) }
     {
-        let waiting = &self.buffer[self.start..self.end];
-        let Some(length) = line_end(waiting) else {
+        let buffered = &self.buffer[self.start..self.end];
+        let Some(length) = line_end(buffered) else {
             return Ok(None);
         };
-        let line = &waiting[..length];
+        let line = &buffered[..length];
         let text = Vec::from_slice(self.alloc, &line[..text_len(line)])?;
         self.start += length + 1;
         Ok(Some(text))
@@ -74,9 +74,9 @@ impl Pieces {
         ensures gathered { OnOk result (AreGathered self.new) }
         ensures short { OnOk result (length (held_in self.new) ≤ max_line) }
     {
-        let waiting = &self.buffer[self.start..self.end];
-        self.carry.reserve(waiting.len() + READING_SPACE)?;
-        self.carry.extend_from_slice(waiting)?;
+        let buffered = &self.buffer[self.start..self.end];
+        self.carry.reserve(buffered.len() + READING_SPACE)?;
+        self.carry.extend_from_slice(buffered)?;
         self.start = 0;
         self.end = 0;
         Ok(())

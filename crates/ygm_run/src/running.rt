@@ -6,7 +6,7 @@ ghost use Rattle.ygm_run.specs.Limits.{max_ranks, most_letters};
 ghost use Rattle.ygm_run.specs.Ending.{EndsBy, FrontAppended, IsDoneIfMemory, IsNoted, OnDone, OnWriteFault, RunEnds, UnlessUnopened, UnlessWritten};
 ghost use Rattle.ygm_run.specs.JobEnds.{JobEnds, OfText, UnlessNoMemory, status_of};
 ghost use Rattle.ygm_run.specs.Inputs.{AreRests};
-ghost use Rattle.ygm_run.specs.Job.{AreGood, AreTold, lines_of_each, letters_bound};
+ghost use Rattle.ygm_run.specs.Job.{AreGood, AreExposed, lines_of_each, letters_bound};
 ghost use Rattle.ygm_run.specs.Notes.{FileIsBelow, note_text};
 ghost use Rattle.ygm_run.specs.TallyText.{tally_text};
 ghost use Rattle.ygm_run.specs.Words.{named, order_of, texts_of};
@@ -67,7 +67,7 @@ fn open_all<F: Files>(
 }
 
 // Tells how the run ended, and answers it. Where memory is wanting for the note, it ended so.
-fn tell<N: Sink>(alloc: Global, status: Status, names: &[String], notes: &mut N) -> Status
+fn report<N: Sink>(alloc: Global, status: Status, names: &[String], notes: &mut N) -> Status
     requires { FileIsBelow (length names.now) status }
     ensures same { UnlessNoMemory result (result ≡ status) }
     ensures noted { IsNoted (note_text result (texts_of names.now)) (N.holds notes.old) (N.holds notes.new) (N.faults notes.old) (N.faults notes.new) }
@@ -122,7 +122,7 @@ fn finish<S: Source, O: Sink, N: Sink>(
 {
     match tally(alloc, sources) {
         Ok(text) => write_text(&text, out, notes),
-        Err(fault) => tell(alloc, fault.status(), &[], notes),
+        Err(fault) => report(alloc, fault.status(), &[], notes),
     }
 }
 
@@ -150,7 +150,7 @@ fn run_tally<F: Files, O: Sink, N: Sink>(
 {
     let mut sources = Vec::new(alloc);
     if let Err(status) = open_all(names, files, &mut sources) {
-        let status = tell(alloc, status, names, notes);
+        let status = report(alloc, status, names, notes);
         return Ended { status, sources };
     }
     let status = finish(alloc, &mut sources, out, notes);
@@ -176,12 +176,12 @@ pub fn run<F: Files, O: Sink, N: Sink>(
     // written and nothing else.
     ensures done { OnDone result.status ((names : List (List ℕ)) × (order_of (texts_of words.now) ≡ Ok names)
         × (length result.sources.items ≡ length names)
-        × ((bytes : List (List ℕ)) → AreTold (map (F.content files.old) names) bytes
+        × ((bytes : List (List ℕ)) → AreExposed (map (F.content files.old) names) bytes
         → AppendedTo (tally_text (lines_of_each bytes)) (O.holds out.old) (O.holds out.new))) }
     ensures nothing_left { OnDone result.status ((rank : ℕ) (source : F.Src) → slice_get result.sources.items rank ≡ Some source → NothingLeft (F.Src.left source)) }
     // A text that couldn't be written whole stands there as far as it was.
     ensures front { OnWriteFault result.status ((names : List (List ℕ)) × (order_of (texts_of words.now) ≡ Ok names)
-        × ((bytes : List (List ℕ)) → AreTold (map (F.content files.old) names) bytes
+        × ((bytes : List (List ℕ)) → AreExposed (map (F.content files.old) names) bytes
         → FrontAppended (tally_text (lines_of_each bytes)) (O.holds out.old) (O.holds out.new))) }
     // Else `out` is as it was: nothing was written, and no write failed.
     ensures nothing_written { UnlessWritten result.status (out.new ≡ out.old) }
@@ -196,7 +196,7 @@ pub fn run<F: Files, O: Sink, N: Sink>(
     ensures no_file_for_refused_words { IfErr (order_of (texts_of words.now)) (λ _. files.new ≡ files.old) }
     // Words that are accepted, files that all hold text, counts within their limits and devices that don't fail: only
     // memory can be wanting.
-    ensures complete { (names bytes : List (List ℕ)) → order_of (texts_of words.now) ≡ Ok names → AreTold (map (F.content files.old) names) bytes
+    ensures complete { (names bytes : List (List ℕ)) → order_of (texts_of words.now) ≡ Ok names → AreExposed (map (F.content files.old) names) bytes
         → AreGood bytes → letters_bound (lines_of_each bytes) ≤ most_letters
         → (Rose (F.faults files.old) (F.faults files.new) → ⊥) → (Rose (O.faults out.old) (O.faults out.new) → ⊥)
         → ((rank : ℕ) (source : F.Src) → slice_get result.sources.items rank ≡ Some source → F.Src.faults source ≡ 0)

@@ -6,7 +6,7 @@ ghost use Rattle.ygm_run.specs.Limits.{max_ranks};
 ghost use Rattle.ygm_run.specs.Carried.{AreReady, Carried};
 ghost use Rattle.ygm_run.specs.JobEnds.{IsFaultOf, JobStops, OfText};
 ghost use Rattle.ygm_run.specs.Inputs.{AllRead, AreRests};
-ghost use Rattle.ygm_run.specs.Job.{AreTold, lines_of_each};
+ghost use Rattle.ygm_run.specs.Job.{AreExposed, lines_of_each};
 
 use crate::input::read_file;
 use crate::status::InputFault;
@@ -67,7 +67,7 @@ fn read_all<S: Source>(alloc: Global, world: &mut World, sources: &mut [S]) -> R
     requires ready { AreReady world.old.comms.items world.old.links }
     requires nothing_sent { Carried (λ _. []) world.old.ranks world.old.comms.items world.old.links }
     ensures ready { OnOk result (AreReady world.new.comms.items world.new.links) }
-    ensures sent { OnOk result ((bytes : List (List ℕ)) → AreTold (map S.left sources.old) bytes
+    ensures sent { OnOk result ((bytes : List (List ℕ)) → AreExposed (map S.left sources.old) bytes
         → Carried (λ rank. slice_index_or (lines_of_each bytes) rank []) world.old.ranks world.new.comms.items world.new.links) }
     ensures read { OnOk result (AllRead S.left S.faults (map S.left sources.old) sources.new) }
     ensures cause { IfErr result (JobStops S.left S.faults (map S.left sources.old) sources.new) }

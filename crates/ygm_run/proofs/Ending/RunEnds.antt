@@ -16,7 +16,7 @@ use Rattle.ygm_run.specs.Ending.{EndsBy, IsDoneIfMemory, IsFirstUnopened, IsNote
 use Rattle.ygm_run.specs.JobEnds.{JobEnds, UnlessNoMemory, status_of}
 use Rattle.list_facts.proofs.Places.{same_item}
 use Rattle.ygm_run.specs.Inputs.{AllRead, AreRests, IsFullAtRank, IsLowestFault, IsRead, IsRest, good_lines}
-use Rattle.ygm_run.specs.Job.{AreGood, AreTold, lines_of_each, letters_bound}
+use Rattle.ygm_run.specs.Job.{AreGood, AreExposed, lines_of_each, letters_bound}
 use Rattle.ygm_run.specs.Limits.{most_letters}
 use Rattle.ygm_run.specs.Lines.{first_too_long, lines_of, raw_lines, text_of}
 use Rattle.ygm_run.specs.Notes.{note_text}
@@ -26,7 +26,7 @@ use Rattle.ygm_run.proofs.Inputs.IsRest.{rest_none}
 use Rattle.ygm_run.proofs.Inputs.GoodLines.{few_good}
 use Rattle.list_facts.proofs.Steps.{taken_more}
 
-note_unnamed : (fault : JobFault) (told : Status) (names others : List (List ℕ)) → UnlessNoMemory told (told ≡ status_of fault) → note_text told names ≡ note_text told others
+note_unnamed : (fault : JobFault) (ended : Status) (names others : List (List ℕ)) → UnlessNoMemory ended (ended ≡ status_of fault) → note_text ended names ≡ note_text ended others
 note_unnamed fault Done names others same = refl
 note_unnamed fault (Usage kind) names others same = refl
 note_unnamed (JobInput rank Read) (OpenFault file) names others same = absurd cc
@@ -40,9 +40,9 @@ note_unnamed fault NoMemory names others same = refl
 note_unnamed fault (CountFull rank at) names others same = refl
 
 -- the note of a job's fault has no file's name
-pub noted_unnamed : (fault : JobFault) (told : Status) (names others : List (List ℕ)) (before now : Told) (faults faults_now : ℕ) → UnlessNoMemory told (told ≡ status_of fault)
-    → IsNoted (note_text told names) before now faults faults_now → IsNoted (note_text told others) before now faults faults_now
-noted_unnamed fault told names others before now faults faults_now same noted = subst (λ text. IsNoted text before now faults faults_now) (note_unnamed fault told names others same) noted
+pub noted_unnamed : (fault : JobFault) (ended : Status) (names others : List (List ℕ)) (before now : Told) (faults faults_now : ℕ) → UnlessNoMemory ended (ended ≡ status_of fault)
+    → IsNoted (note_text ended names) before now faults faults_now → IsNoted (note_text ended others) before now faults faults_now
+noted_unnamed fault ended names others before now faults faults_now same noted = subst (λ text. IsNoted text before now faults faults_now) (note_unnamed fault ended names others same) noted
 
 -- each cause by another
 pub ends_so : (r1 r2 : UsageKind → Type 0) (o1 o2 : ℕ → Type 0) (f1 f2 : ℕ → ℕ → Type 0) (i1 i2 : ℕ → InputFault → Type 0) (w1 w2 d1 d2 : Type 0)
@@ -72,41 +72,41 @@ unless_written WriteFault P h = tt
 unless_written NoMemory P h = absurd h
 unless_written (CountFull rank at) P h = absurd h
 
-module _ {S : Type 0} (left : S → Told) (count : S → ℕ) where
+module _ {S : Type 0} (left : S → Told) (faults : S → ℕ) where
   -- a run that couldn't open a file
   pub run_unopened : (names : List (List ℕ)) (content : List ℕ → Told) (sources : List S) (many : ℕ) (opening writing : Type 0) (status : Status) → length names ≡ many
-      → map left sources ≡ map content (take (length sources) names) → ((rank : ℕ) (source : S) → slice_get sources rank ≡ Some source → count source ≡ 0)
-      → EndsBy (λ _. ⊥) (λ file. (file ≡ length sources) × (file < many) × opening) (λ _ _. ⊥) (λ _ _. ⊥) ⊥ ⊥ status → RunEnds left count (Ok names) content sources opening writing status
+      → map left sources ≡ map content (take (length sources) names) → ((rank : ℕ) (source : S) → slice_get sources rank ≡ Some source → faults source ≡ 0)
+      → EndsBy (λ _. ⊥) (λ file. (file ≡ length sources) × (file < many) × opening) (λ _ _. ⊥) (λ _ _. ⊥) ⊥ ⊥ status → RunEnds left faults (Ok names) content sources opening writing status
   run_unopened names content sources many opening writing status all opened fresh ends =
       ends_so (λ _. ⊥) (λ kind. (Ok names ≡ Err kind) × (sources ≡ []))
-      (λ file. (file ≡ length sources) × (file < many) × opening) (λ file. (ns : List (List ℕ)) × (Ok names ≡ Ok ns) × IsFirstUnopened left count content ns sources file × opening)
-      (λ _ _. ⊥) (λ rank at. Opened (Ok names) sources (λ ns. IsFullAtRank left count (map content ns) sources rank at))
-      (λ _ _. ⊥) (λ rank found. Opened (Ok names) sources (λ ns. IsLowestFault left count (map content ns) sources rank found))
-      ⊥ (Opened (Ok names) sources (λ ns. AllRead left count (map content ns) sources × writing))
-      ⊥ (Opened (Ok names) sources (λ ns. AllRead left count (map content ns) sources))
+      (λ file. (file ≡ length sources) × (file < many) × opening) (λ file. (ns : List (List ℕ)) × (Ok names ≡ Ok ns) × IsFirstUnopened left faults content ns sources file × opening)
+      (λ _ _. ⊥) (λ rank at. Opened (Ok names) sources (λ ns. IsFullAtRank left faults (map content ns) sources rank at))
+      (λ _ _. ⊥) (λ rank found. Opened (Ok names) sources (λ ns. IsLowestFault left faults (map content ns) sources rank found))
+      ⊥ (Opened (Ok names) sources (λ ns. AllRead left faults (map content ns) sources × writing))
+      ⊥ (Opened (Ok names) sources (λ ns. AllRead left faults (map content ns) sources))
       (λ kind h. absurd h)
       (λ file h. (names, refl, record { within = omega (arith, h.1, all); opened_before = sym h.0; unread = opened ∙ ap (λ k. map content (take k names)) (sym h.0); no_fault = fresh }, h.2))
       (λ rank at h. absurd h) (λ rank found h. absurd h) (λ h. absurd h) (λ h. absurd h) status ends
 
   -- a run that opened all files
-  pub run_opened : (names : List (List ℕ)) (content : List ℕ → Told) (helds : List Told) (sources : List S) (opening writing : Type 0) (status : Status) → length sources ≡ length names → helds ≡ map content names
-      → JobEnds left count helds sources writing status → RunEnds left count (Ok names) content sources opening writing status
-  run_opened names content helds sources opening writing status all is ends =
-      let now = subst (λ hs. JobEnds left count hs sources writing status) is ends in
+  pub run_opened : (names : List (List ℕ)) (content : List ℕ → Told) (contents : List Told) (sources : List S) (opening writing : Type 0) (status : Status) → length sources ≡ length names → contents ≡ map content names
+      → JobEnds left faults contents sources writing status → RunEnds left faults (Ok names) content sources opening writing status
+  run_opened names content contents sources opening writing status all is ends =
+      let now = subst (λ hs. JobEnds left faults hs sources writing status) is ends in
       ends_so (λ _. ⊥) (λ kind. (Ok names ≡ Err kind) × (sources ≡ []))
-      (λ _. ⊥) (λ file. (ns : List (List ℕ)) × (Ok names ≡ Ok ns) × IsFirstUnopened left count content ns sources file × opening)
-      (IsFullAtRank left count (map content names) sources) (λ rank at. Opened (Ok names) sources (λ ns. IsFullAtRank left count (map content ns) sources rank at))
-      (IsLowestFault left count (map content names) sources) (λ rank found. Opened (Ok names) sources (λ ns. IsLowestFault left count (map content ns) sources rank found))
-      (AllRead left count (map content names) sources × writing) (Opened (Ok names) sources (λ ns. AllRead left count (map content ns) sources × writing))
-      (AllRead left count (map content names) sources) (Opened (Ok names) sources (λ ns. AllRead left count (map content ns) sources))
+      (λ _. ⊥) (λ file. (ns : List (List ℕ)) × (Ok names ≡ Ok ns) × IsFirstUnopened left faults content ns sources file × opening)
+      (IsFullAtRank left faults (map content names) sources) (λ rank at. Opened (Ok names) sources (λ ns. IsFullAtRank left faults (map content ns) sources rank at))
+      (IsLowestFault left faults (map content names) sources) (λ rank found. Opened (Ok names) sources (λ ns. IsLowestFault left faults (map content ns) sources rank found))
+      (AllRead left faults (map content names) sources × writing) (Opened (Ok names) sources (λ ns. AllRead left faults (map content ns) sources × writing))
+      (AllRead left faults (map content names) sources) (Opened (Ok names) sources (λ ns. AllRead left faults (map content ns) sources))
       (λ kind h. absurd h) (λ file h. absurd h) (λ rank at h. (names, refl, all, h)) (λ rank found h. (names, refl, all, h)) (λ h. (names, refl, all, h)) (λ h. (names, refl, all, h)) status now
 
   -- what the words ask for was written otherwise
-  pub run_under : (order other : Result (List (List ℕ)) UsageKind) (content : List ℕ → Told) (sources : List S) (opening writing : Type 0) (status : Status) → order ≡ other → RunEnds left count other content sources opening writing status → RunEnds left count order content sources opening writing status
-  run_under order other content sources opening writing status e ends = subst (λ o. RunEnds left count o content sources opening writing status) (sym e) ends
+  pub run_under : (order other : Result (List (List ℕ)) UsageKind) (content : List ℕ → Told) (sources : List S) (opening writing : Type 0) (status : Status) → order ≡ other → RunEnds left faults other content sources opening writing status → RunEnds left faults order content sources opening writing status
+  run_under order other content sources opening writing status e ends = subst (λ o. RunEnds left faults o content sources opening writing status) (sym e) ends
 
-  pub run_over : (order : Result (List (List ℕ)) UsageKind) (content : List ℕ → Told) (sources others : List S) (opening writing : Type 0) (status : Status) → sources ≡ others → RunEnds left count order content others opening writing status → RunEnds left count order content sources opening writing status
-  run_over order content sources others opening writing status e ends = subst (λ xs. RunEnds left count order content xs opening writing status) (sym e) ends
+  pub run_over : (order : Result (List (List ℕ)) UsageKind) (content : List ℕ → Told) (sources others : List S) (opening writing : Type 0) (status : Status) → sources ≡ others → RunEnds left faults order content others opening writing status → RunEnds left faults order content sources opening writing status
+  run_over order content sources others opening writing status e ends = subst (λ xs. RunEnds left faults order content xs opening writing status) (sym e) ends
 
   -- one more of the names was opened
   pub opened_more : (content : List ℕ → Told) (names : List (List ℕ)) (k : ℕ) (old now : List S) (source : S) (name : List ℕ) → now ≡ old ++ source ∷ [] → map left old ≡ map content (take k names) → slice_get names k ≡ Some name → left source ≡ content name
@@ -116,11 +116,11 @@ module _ {S : Type 0} (left : S → Told) (count : S → ℕ) where
       ∙ sym (ap (map content) (taken_more names k name at) ∙ map-append content (take k names) (name ∷ []))
 
   -- of sources of which nothing was read all is left
-  pub rests_unread : (helds : List Told) (sources : List S) (k : ℕ) → map left sources ≡ take k helds → AreRests left helds sources
-  rests_unread helds sources k same r held source is at =
-      let front : slice_get (take k helds) r ≡ Some (left source) = ap (λ (w : List Told). slice_get w r) (sym same) ∙ slice_get-map left sources r ∙ ap (option_map left) at in
-      let whole = in_front helds k r (left source) front in
-      let e : held ≡ left source = same_item helds r held (left source) is whole in
+  pub rests_unread : (contents : List Told) (sources : List S) (k : ℕ) → map left sources ≡ take k contents → AreRests left contents sources
+  rests_unread contents sources k same r file source is at =
+      let front : slice_get (take k contents) r ≡ Some (left source) = ap (λ (w : List Told). slice_get w r) (sym same) ∙ slice_get-map left sources r ∙ ap (option_map left) at in
+      let whole = in_front contents k r (left source) front in
+      let e : file ≡ left source = same_item contents r file (left source) is whole in
       subst (λ t. IsRest t (left source)) (sym e) (rest_none (left source)) where
         in_front : (xs : List Told) (i j : ℕ) (x : Told) → slice_get (take i xs) j ≡ Some x → slice_get xs j ≡ Some x
         in_front [] zero j x e = e
@@ -130,21 +130,21 @@ module _ {S : Type 0} (left : S → Told) (count : S → ℕ) where
         in_front (y ∷ ys) (suc i) (suc j) x e = in_front ys i j x e
 
   -- what the file of a source held
-  held_of : (helds : List Told) (sources : List S) (rank : ℕ) (source : S) → length sources ≡ length helds → slice_get sources rank ≡ Some source → (held : Told) × (slice_get helds rank ≡ Some held)
-  held_of helds sources rank source all at =
+  content_of : (contents : List Told) (sources : List S) (rank : ℕ) (source : S) → length sources ≡ length contents → slice_get sources rank ≡ Some source → (file : Told) × (slice_get contents rank ≡ Some file)
+  content_of contents sources rank source all at =
       let within : rank < length sources = slice_get_within sources rank source at in
-      elim (slice_get_cases helds rank).1 [
-        | inl (held, lt, is, get) ↦ (held, is)
+      elim (slice_get_cases contents rank).1 [
+        | inl (file, lt, is, get) ↦ (file, is)
         | inr (past, is) ↦ absurd (omega (arith, past, within, all))
       ]
 
   -- where all files were read to their ends, nothing is left
-  pub nothing_left_of : (names : List (List ℕ)) (content : List ℕ → Told) (sources : List S) → length sources ≡ length names → AllRead left count (map content names) sources → (rank : ℕ) (source : S) → slice_get sources rank ≡ Some source → NothingLeft (left source)
+  pub nothing_left_of : (names : List (List ℕ)) (content : List ℕ → Told) (sources : List S) → length sources ≡ length names → AllRead left faults (map content names) sources → (rank : ℕ) (source : S) → slice_get sources rank ≡ Some source → NothingLeft (left source)
   nothing_left_of names content sources all read rank source at =
-      let held = held_of (map content names) sources rank source (all ∙ sym (length-map names content)) at in
-      (read rank held.0 source held.1 at).to_its_end refl
+      let file = content_of (map content names) sources rank source (all ∙ sym (length-map names content)) at in
+      (read rank file.0 source file.1 at).to_its_end refl
 
-  pub run_nothing_left : (order : Result (List (List ℕ)) UsageKind) (content : List ℕ → Told) (sources : List S) (opening writing : Type 0) (status : Status) → RunEnds left count order content sources opening writing status → OnDone status ((rank : ℕ) (source : S) → slice_get sources rank ≡ Some source → NothingLeft (left source))
+  pub run_nothing_left : (order : Result (List (List ℕ)) UsageKind) (content : List ℕ → Told) (sources : List S) (opening writing : Type 0) (status : Status) → RunEnds left faults order content sources opening writing status → OnDone status ((rank : ℕ) (source : S) → slice_get sources rank ≡ Some source → NothingLeft (left source))
   run_nothing_left order content sources opening writing Done ends = nothing_left_of ends.0 content sources ends.2 ends.3
   run_nothing_left order content sources opening writing (Usage kind) ends = tt
   run_nothing_left order content sources opening writing (OpenFault file) ends = tt
@@ -168,9 +168,9 @@ good_at [] rank b good at = cc
 good_at (x ∷ xs) zero b good at = let e : x ≡ b = cc in subst (λ w. first_too_long (raw_lines w) ≡ None) e good.0
 good_at (x ∷ xs) (suc rank) b good at = good_at xs rank b good.1 at
 
-bytes_of : (bytes : List (List ℕ)) (helds : List Told) (rank : ℕ) (held : Told) → AreTold helds bytes → slice_get helds rank ≡ Some held → (b : List ℕ) × (slice_get bytes rank ≡ Some b) × (held ≡ Some b)
-bytes_of bytes helds rank held told at = of (slice_get bytes rank) refl (sym at ∙ ap (λ (w : List Told). slice_get w rank) told ∙ slice_get-map Some bytes rank) where
-  of : (o : Option (List ℕ)) → slice_get bytes rank ≡ o → Some held ≡ option_map Some (slice_get bytes rank) → (b : List ℕ) × (slice_get bytes rank ≡ Some b) × (held ≡ Some b)
+bytes_of : (bytes : List (List ℕ)) (contents : List Told) (rank : ℕ) (file : Told) → AreExposed contents bytes → slice_get contents rank ≡ Some file → (b : List ℕ) × (slice_get bytes rank ≡ Some b) × (file ≡ Some b)
+bytes_of bytes contents rank file exposed at = of (slice_get bytes rank) refl (sym at ∙ ap (λ (w : List Told). slice_get w rank) exposed ∙ slice_get-map Some bytes rank) where
+  of : (o : Option (List ℕ)) → slice_get bytes rank ≡ o → Some file ≡ option_map Some (slice_get bytes rank) → (b : List ℕ) × (slice_get bytes rank ≡ Some b) × (file ≡ Some b)
   of None is e = absurd (let f = e ∙ ap (option_map Some) is in cc)
   of (Some b) is e = let f = e ∙ ap (option_map Some) is in (b, is, cc)
 
@@ -178,46 +178,46 @@ same_names : (order : Result (List (List ℕ)) UsageKind) (names others : List (
 same_names (Ok ns) names others p q = cc
 same_names (Err kind) names others p q = cc
 
-if_at : (held : Told) (b : List ℕ) (P : List ℕ → Type 0) → held ≡ Some b → IfSome held P → P b
-if_at held b P e h = subst (λ (t : Told). IfSome t P) e h
+if_at : (file : Told) (b : List ℕ) (P : List ℕ → Type 0) → file ≡ Some b → IfSome file P → P b
+if_at file b P e h = subst (λ (t : Told). IfSome t P) e h
 
-module _ {S : Type 0} (left : S → Told) (count : S → ℕ) where
+module _ {S : Type 0} (left : S → Told) (faults : S → ℕ) where
   -- no input has a fault where no read failed and no line is bad
-  no_fault : (bytes : List (List ℕ)) (helds : List Told) (sources : List S) (rank : ℕ) (found : InputFault) → AreTold helds bytes → AreGood bytes → ((rank : ℕ) (source : S) → slice_get sources rank ≡ Some source → count source ≡ 0)
-      → length sources ≡ length helds → IsLowestFault left count helds sources rank found → ⊥
-  no_fault bytes helds sources rank found told good calm all lowest = elim (slice_get_cases sources rank).1 [
+  no_fault : (bytes : List (List ℕ)) (contents : List Told) (sources : List S) (rank : ℕ) (found : InputFault) → AreExposed contents bytes → AreGood bytes → ((rank : ℕ) (source : S) → slice_get sources rank ≡ Some source → faults source ≡ 0)
+      → length sources ≡ length contents → IsLowestFault left faults contents sources rank found → ⊥
+  no_fault bytes contents sources rank found exposed good calm all lowest = elim (slice_get_cases sources rank).1 [
     | inl (source, within, at, get) ↦
-        let held = held_of left count helds sources rank source all at in
-        let b = bytes_of bytes helds rank held.0 told held.1 in
-        let read = subst (IsRead left count held.0 source) lowest.here (lowest.read rank held.0 source held.1 at) in
-        none found held.0 source read (calm rank source at) b.0 b.2 (good_at bytes rank b.0 good b.1)
+        let file = content_of left faults contents sources rank source all at in
+        let b = bytes_of bytes contents rank file.0 exposed file.1 in
+        let read = subst (IsRead left faults file.0 source) lowest.here (lowest.read rank file.0 source file.1 at) in
+        none found file.0 source read (calm rank source at) b.0 b.2 (good_at bytes rank b.0 good b.1)
     | inr (past, is) ↦ absurd (omega (arith, past, lowest.within))
   ] where
-    none : (f : InputFault) (held : Told) (source : S) → IsRead left count held source (Some f) → count source ≡ 0 → (b : List ℕ) → held ≡ Some b → first_too_long (raw_lines b) ≡ None → ⊥
-    none Read held source read calm b e g = omega (arith, read.read.0 refl, calm)
-    none (Bad line why) held source read calm b e g = let bad = if_at held b (λ bytes. Some line ≡ first_too_long (raw_lines bytes)) e (read.bad calm) in let f = bad ∙ g in cc
+    none : (f : InputFault) (file : Told) (source : S) → IsRead left faults file source (Some f) → faults source ≡ 0 → (b : List ℕ) → file ≡ Some b → first_too_long (raw_lines b) ≡ None → ⊥
+    none Read file source read calm b e g = omega (arith, read.read.0 refl, calm)
+    none (Bad line why) file source read calm b e g = let bad = if_at file b (λ bytes. Some line ≡ first_too_long (raw_lines bytes)) e (read.bad calm) in let f = bad ∙ g in cc
 
   -- Completeness: nothing fails, all lines are good and few enough.
-  pub run_complete : (order : Result (List (List ℕ)) UsageKind) (content : List ℕ → Told) (sources : List S) (opening writing : Type 0) (status : Status) → RunEnds left count order content sources opening writing status
-      → (names bytes : List (List ℕ)) → order ≡ Ok names → AreTold (map content names) bytes → AreGood bytes → letters_bound (lines_of_each bytes) ≤ most_letters → (opening → ⊥) → (writing → ⊥)
-      → ((rank : ℕ) (source : S) → slice_get sources rank ≡ Some source → count source ≡ 0) → IsDoneIfMemory status
-  run_complete order content sources opening writing Done ends names bytes is told good few no_open no_write calm = inl refl
-  run_complete order content sources opening writing (Usage kind) ends names bytes is told good few no_open no_write calm = absurd (refused order names kind is ends.0) where
+  pub run_complete : (order : Result (List (List ℕ)) UsageKind) (content : List ℕ → Told) (sources : List S) (opening writing : Type 0) (status : Status) → RunEnds left faults order content sources opening writing status
+      → (names bytes : List (List ℕ)) → order ≡ Ok names → AreExposed (map content names) bytes → AreGood bytes → letters_bound (lines_of_each bytes) ≤ most_letters → (opening → ⊥) → (writing → ⊥)
+      → ((rank : ℕ) (source : S) → slice_get sources rank ≡ Some source → faults source ≡ 0) → IsDoneIfMemory status
+  run_complete order content sources opening writing Done ends names bytes is exposed good few no_open no_write calm = inl refl
+  run_complete order content sources opening writing (Usage kind) ends names bytes is exposed good few no_open no_write calm = absurd (refused order names kind is ends.0) where
     refused : (o : Result (List (List ℕ)) UsageKind) (ns : List (List ℕ)) (k : UsageKind) → o ≡ Ok ns → o ≡ Err k → ⊥
     refused (Ok ns') ns k p q = cc
     refused (Err k') ns k p q = cc
-  run_complete order content sources opening writing (OpenFault file) ends names bytes is told good few no_open no_write calm = absurd (no_open ends.3)
-  run_complete order content sources opening writing (ReadFault rank) ends names bytes is told good few no_open no_write calm =
+  run_complete order content sources opening writing (OpenFault file) ends names bytes is exposed good few no_open no_write calm = absurd (no_open ends.3)
+  run_complete order content sources opening writing (ReadFault rank) ends names bytes is exposed good few no_open no_write calm =
       let same = same_names order names ends.0 is ends.1 in
-      absurd (no_fault bytes (map content names) sources rank Read told good calm (ends.2 ∙ ap length same ∙ sym (length-map names content)) (subst (λ ns. IsLowestFault left count (map content ns) sources rank Read) same ends.3))
-  run_complete order content sources opening writing (BadLine rank line why) ends names bytes is told good few no_open no_write calm =
+      absurd (no_fault bytes (map content names) sources rank Read exposed good calm (ends.2 ∙ ap length same ∙ sym (length-map names content)) (subst (λ ns. IsLowestFault left faults (map content ns) sources rank Read) same ends.3))
+  run_complete order content sources opening writing (BadLine rank line why) ends names bytes is exposed good few no_open no_write calm =
       let same = same_names order names ends.0 is ends.1 in
-      absurd (no_fault bytes (map content names) sources rank (Bad line why) told good calm (ends.2 ∙ ap length same ∙ sym (length-map names content)) (subst (λ ns. IsLowestFault left count (map content ns) sources rank (Bad line why)) same ends.3))
-  run_complete order content sources opening writing WriteFault ends names bytes is told good few no_open no_write calm = absurd (no_write ends.3.1)
-  run_complete order content sources opening writing NoMemory ends names bytes is told good few no_open no_write calm = inr refl
-  run_complete order content sources opening writing (CountFull rank at) ends names bytes is told good few no_open no_write calm =
+      absurd (no_fault bytes (map content names) sources rank (Bad line why) exposed good calm (ends.2 ∙ ap length same ∙ sym (length-map names content)) (subst (λ ns. IsLowestFault left faults (map content ns) sources rank (Bad line why)) same ends.3))
+  run_complete order content sources opening writing WriteFault ends names bytes is exposed good few no_open no_write calm = absurd (no_write ends.3.1)
+  run_complete order content sources opening writing NoMemory ends names bytes is exposed good few no_open no_write calm = inr refl
+  run_complete order content sources opening writing (CountFull rank at) ends names bytes is exposed good few no_open no_write calm =
       let same = same_names order names ends.0 is ends.1 in
-      let full = subst (λ ns. IsFullAtRank left count (map content ns) sources rank at) same ends.3 in
-      let b = bytes_of bytes (map content names) rank full.held told full.held_is in
-      let many = if_at full.held b.0 (λ w. most_letters < length (good_lines (raw_lines w))) b.2 full.full.lines in
+      let full = subst (λ ns. IsFullAtRank left faults (map content ns) sources rank at) same ends.3 in
+      let b = bytes_of bytes (map content names) rank full.content exposed full.content_is in
+      let many = if_at full.content b.0 (λ w. most_letters < length (good_lines (raw_lines w))) b.2 full.full.lines in
       absurd (omega (arith, many, few, few_lines bytes rank b.0 b.1))

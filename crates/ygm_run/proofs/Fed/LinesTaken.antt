@@ -18,15 +18,15 @@ use Rattle.ygm_run.proofs.Lines.RawLines.{part_short}
 use Rattle.ygm_run.proofs.Turns.ToCome.{taken_more, taken_none}
 
 pub lines_none : (before now : Told) → before ≡ now → LinesTaken [] before now
-lines_none before now same = record { given = []; taken = same ∙ taken_none now; lines = λ front later e. refl }
+lines_none before now same = record { bytes = []; taken = same ∙ taken_none now; lines = λ front later e. refl }
 
 pub lines_more : (xs ys : List (List ℕ)) (a b c : Told) → LinesTaken xs a b → LinesTaken ys b c → LinesTaken (xs ++ ys) a c
 lines_more xs ys a b c p q = record {
-  given = p.given ++ q.given;
-  taken = taken_more p.given q.given a b c p.taken q.taken;
+  bytes = p.bytes ++ q.bytes;
+  taken = taken_more p.bytes q.bytes a b c p.taken q.taken;
   lines = λ front later e.
-      ap raw_lines (append_assoc p.given q.given front)
-      ∙ p.lines (q.given ++ front) later (q.taken ∙ ap (option_map (λ rest. q.given ++ rest)) e ∙ ap Some (sym (append_assoc q.given front later)))
+      ap raw_lines (append_assoc p.bytes q.bytes front)
+      ∙ p.lines (q.bytes ++ front) later (q.taken ∙ ap (option_map (λ rest. q.bytes ++ rest)) e ∙ ap Some (sym (append_assoc q.bytes front later)))
       ∙ ap (λ w. xs ++ w) (q.lines front later e)
       ∙ sym (append_assoc xs ys (raw_lines front));
 }
@@ -39,12 +39,12 @@ nothing_of (byte ∷ front) later (Some rest) e none = absurd (let f : rest ≡ 
 -- a line that was cut off is the first
 pub line_cut : (raw : List ℕ) (before now : Told) → LacksLf raw → CutOff raw before now → LinesTaken (raw ∷ []) before now
 line_cut raw before now h (inl e) = record {
-  given = raw ++ 10 ∷ [];
+  bytes = raw ++ 10 ∷ [];
   taken = e;
   lines = λ front later is. ap raw_lines (append_assoc raw (10 ∷ []) front) ∙ raw_lines-at_lf raw front h;
 }
 line_cut raw before now h (inr last) = record {
-  given = raw;
+  bytes = raw;
   taken = last.1;
   lines = λ front later is.
       let empty = nothing_of front later now is last.2 in
@@ -54,8 +54,8 @@ line_cut raw before now h (inr last) = record {
 -- all the lines of the bytes
 pub whole_lines : (raws : List (List ℕ)) (bytes rest : List ℕ) → LinesTaken raws (Some bytes) (Some rest) → raw_lines bytes ≡ raws ++ raw_lines rest
 whole_lines raws bytes rest t =
-    let e : Some bytes ≡ Some (t.given ++ rest) = t.taken in
-    let is : bytes ≡ t.given ++ rest = cc in
+    let e : Some bytes ≡ Some (t.bytes ++ rest) = t.taken in
+    let is : bytes ≡ t.bytes ++ rest = cc in
     ap raw_lines is ∙ t.lines rest [] (ap Some (sym (append-nil rest)))
 
 -- their texts go with them
@@ -69,15 +69,15 @@ pub front_read : (raws : List (List ℕ)) (part piece held : List ℕ) (before n
     → LinesTaken raws before (to_come held now) → (front : List ℕ) × TakenFrom (front ++ piece) before now × (first_too_long (raw_lines front) ≡ None) × (ended_lines front ≤ length raws)
 front_read raws part piece held before None is h fits short t = ([], t.taken, refl, omega arith)
 front_read raws part piece held before (Some rest) is h fits short t =
-    let front = t.given ++ part in
-    let given : raw_lines t.given ≡ raws = ap raw_lines (sym (append-nil t.given)) ∙ t.lines [] (held ++ rest) refl ∙ append-nil raws in (
+    let front = t.bytes ++ part in
+    let given : raw_lines t.bytes ≡ raws = ap raw_lines (sym (append-nil t.bytes)) ∙ t.lines [] (held ++ rest) refl ∙ append-nil raws in (
       front,
       t.taken
-          ∙ ap (λ w. Some (t.given ++ (w ++ rest))) is
-          ∙ ap Some (sym (append_assoc t.given (part ++ piece) rest) ∙ ap (λ w. w ++ rest) (sym (append_assoc t.given part piece))),
+          ∙ ap (λ w. Some (t.bytes ++ (w ++ rest))) is
+          ∙ ap Some (sym (append_assoc t.bytes (part ++ piece) rest) ∙ ap (λ w. w ++ rest) (sym (append_assoc t.bytes part piece))),
       ap first_too_long (t.lines part (piece ++ rest) (ap (λ w. Some (w ++ rest)) is ∙ ap Some (append_assoc part piece rest)))
           ∙ none_too_long_of (raws ++ raw_lines part) (all_append (λ raw. length raw ≤ max_line) raws (raw_lines part) short (part_short part h fits)),
-      omega (arith, ended_lines-append t.given part, ended_lines-none part h, ended_are_lines t.given, ap length given),
+      omega (arith, ended_lines-append t.bytes part, ended_lines-none part h, ended_are_lines t.bytes, ap length given),
     )
 
 -- what is to come at first is all that is left

@@ -7,8 +7,8 @@ use Rattle.ygm_run.specs.Lines.{LacksLf, StartsTooLong}
 use Rattle.ygm_run.proofs.Lines.RawLines.{starts_too_long}
 
 -- the carry and what stands before the first LF are too long
-pub carried_too_long : (carry piece : List ℕ) (n : ℕ) → LacksLf carry → LacksLf (take n piece) → n ≤ length piece → max_line < length carry + n → (rest : List ℕ) → StartsTooLong ((carry ++ piece) ++ rest)
-carried_too_long carry piece n c f within long rest =
+pub joined_too_long : (carry piece : List ℕ) (n : ℕ) → LacksLf carry → LacksLf (take n piece) → n ≤ length piece → max_line < length carry + n → (rest : List ℕ) → StartsTooLong ((carry ++ piece) ++ rest)
+joined_too_long carry piece n c f within long rest =
     let front = take n piece in
     let cut : (carry ++ piece) ++ rest ≡ (carry ++ front) ++ (drop n piece ++ rest) =
     ap (λ p. (carry ++ p) ++ rest) (sym (take-append-drop n piece))

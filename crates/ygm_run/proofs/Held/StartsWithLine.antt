@@ -15,8 +15,8 @@ LacksLf-front None piece count some none = All-take (λ b. b ≢ 10) count piece
 LacksLf-front (Some end) piece count some none = some
 
 -- a piece with an LF makes the line whole that the carry began
-pub carried_line : (carry front rest text : List ℕ) → LacksLf carry → LacksLf front → length carry + length front ≤ max_line → text ≡ text_of (carry ++ front) → StartsWithLine (carry ++ (front ++ 10 ∷ rest)) text rest
-carried_line carry front rest text c f short is = record {
+pub joined_line : (carry front rest text : List ℕ) → LacksLf carry → LacksLf front → length carry + length front ≤ max_line → text ≡ text_of (carry ++ front) → StartsWithLine (carry ++ (front ++ 10 ∷ rest)) text rest
+joined_line carry front rest text c f short is = record {
   raw = carry ++ front;
   whole = sym (append_assoc carry front (10 ∷ rest));
   partial = All-append (λ b. b ≢ 10) carry front c f;
@@ -25,15 +25,15 @@ carried_line carry front rest text c f short is = record {
 }
 
 -- a line that stands whole in the buffer, with nothing in the carry
-pub waiting_line : (carry buffer text : List ℕ) (start end n : ℕ) → carry ≡ [] → let waiting = slice_range buffer start end in n < length waiting → end ≤ max_line → LacksLf (take n waiting) → waiting ≡ take n waiting ++ 10 ∷ drop (n + 1) waiting → text ≡ text_of (take n waiting) → StartsWithLine (carry ++ waiting) text (carry ++ slice_range buffer (start + (n + 1)) end)
-waiting_line carry buffer text start end n none within bound partial parts is =
-    let waiting = slice_range buffer start end in
-    let most : length waiting ≤ end - start = omega (arith, length-take (end - start) (drop start buffer)) in
+pub buffered_line : (carry buffer text : List ℕ) (start end n : ℕ) → carry ≡ [] → let buffered = slice_range buffer start end in n < length buffered → end ≤ max_line → LacksLf (take n buffered) → buffered ≡ take n buffered ++ 10 ∷ drop (n + 1) buffered → text ≡ text_of (take n buffered) → StartsWithLine (carry ++ buffered) text (carry ++ slice_range buffer (start + (n + 1)) end)
+buffered_line carry buffer text start end n none within bound partial parts is =
+    let buffered = slice_range buffer start end in
+    let most : length buffered ≤ end - start = omega (arith, length-take (end - start) (drop start buffer)) in
     record {
-      raw = take n waiting;
-      whole = ap (λ c. c ++ waiting) none ∙ parts ∙ ap (λ rest. take n waiting ++ 10 ∷ rest) (drop-slice_range (n + 1) start end buffer (omega arith)) ∙ sym (ap (λ c. take n waiting ++ 10 ∷ (c ++ slice_range buffer (start + (n + 1)) end)) none);
+      raw = take n buffered;
+      whole = ap (λ c. c ++ buffered) none ∙ parts ∙ ap (λ rest. take n buffered ++ 10 ∷ rest) (drop-slice_range (n + 1) start end buffer (omega arith)) ∙ sym (ap (λ c. take n buffered ++ 10 ∷ (c ++ slice_range buffer (start + (n + 1)) end)) none);
       partial = partial;
-      short = omega (arith, length-take n waiting);
+      short = omega (arith, length-take n buffered);
       text_is = is;
     }
 
@@ -52,9 +52,9 @@ front_within None count most h some = h
 front_within (Some end) count most h some = omega arith
 
 -- the carry is empty where bytes wait
-pub nothing_carried : (carried start end : ℕ) → (0 < carried → start ≡ end) → start < end → carried ≡ 0
-nothing_carried zero start end h waits = refl
-nothing_carried (suc carried) start end h waits = absurd (let same : start ≡ end = h (omega arith) in omega arith)
+pub no_carry : (carried start end : ℕ) → (0 < carried → start ≡ end) → start < end → carried ≡ 0
+no_carry zero start end h waits = refl
+no_carry (suc carried) start end h waits = absurd (let same : start ≡ end = h (omega arith) in omega arith)
 
 -- a line's text has no more bytes than a line may have
 pub text_is_short : (bytes text held : List ℕ) → StartsWithLine bytes text held → length text ≤ max_line

@@ -16,12 +16,12 @@ use Rattle.ygm_run.proofs.Inputs.GoodLines.{good_before}
 -- lines were given, and one more is to come: as many and one stand before any that is too long
 pub many_good : (raws : List (List ℕ)) (before now : Told) → AllByRecursion (λ raw. length raw ≤ max_line) raws → LinesTaken raws before now → HasLine now → IfSome before (λ bytes. length raws < length (good_lines (raw_lines bytes)))
 many_good raws before now short taken (text, rest, line) = of before rest (lines_more raws (line.raw ∷ []) before now rest taken (line_cut line.raw now rest line.partial line.cut)) where
-  of : (told rest : Told) → LinesTaken (raws ++ line.raw ∷ []) told rest → IfSome told (λ bytes. length raws < length (good_lines (raw_lines bytes)))
-  of None rest all = tt
-  of (Some bytes) None all = absurd (let e = all.taken in cc)
-  of (Some bytes) (Some later) all =
+  of : (all rest : Told) → LinesTaken (raws ++ line.raw ∷ []) all rest → IfSome all (λ bytes. length raws < length (good_lines (raw_lines bytes)))
+  of None rest taken_all = tt
+  of (Some bytes) None taken_all = absurd (let e = taken_all.taken in cc)
+  of (Some bytes) (Some later) taken_all =
       let good = good_before (raws ++ line.raw ∷ []) (raw_lines later) (all_append (λ raw. length raw ≤ max_line) raws (line.raw ∷ []) short (line.short, tt)) in
-      omega (arith, good, length-append raws (line.raw ∷ []), ap (λ w. length (good_lines w)) (whole_lines (raws ++ line.raw ∷ []) bytes later all))
+      omega (arith, good, length-append raws (line.raw ∷ []), ap (λ w. length (good_lines w)) (whole_lines (raws ++ line.raw ∷ []) bytes later taken_all))
 
 -- a fact of the limit that a full count gave, made of another
 pub full_so : (P Q : ℕ → Type 0) (fault : CommFault) → ((limit : ℕ) → P limit → Q limit) → IfCountFull fault P → IfCountFull fault Q

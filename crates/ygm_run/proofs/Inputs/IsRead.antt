@@ -22,10 +22,10 @@ pub not_ended : (fault : Option InputFault) (reader : Reading) (left : Told) (fa
 not_ended fault reader left faults faults_now going done = absurd (false≢true (sym going ∙ done))
 
 -- How a file was read, once its reading has ended.
-pub was_read : {S : Type 0} (left : S → Told) (count : S → ℕ) (raws : List (List ℕ)) (reader : Reading) (before : Told) (source : S) (fault : Option InputFault) → AllByRecursion (λ raw. length raw ≤ max_line) raws
-    → LinesTaken raws before (to_come reader.held (left source)) → reader.given ≡ length raws → reader.given ≤ most_letters → EndedWith fault reader (left source) 0 (count source)
-    → NothingBehind left count source fault → IsRead left count before source fault
-was_read left count raws reader before source None short taken given bound ended behind = record {
+pub was_read : {S : Type 0} (left : S → Told) (faults : S → ℕ) (raws : List (List ℕ)) (reader : Reading) (before : Told) (source : S) (fault : Option InputFault) → AllByRecursion (λ raw. length raw ≤ max_line) raws
+    → LinesTaken raws before (to_come reader.held (left source)) → reader.given ≡ length raws → reader.given ≤ most_letters → EndedWith fault reader (left source) 0 (faults source)
+    → NothingBehind left faults source fault → IsRead left faults before source fault
+was_read left faults raws reader before source None short taken given bound ended behind = record {
   read = ((λ e. absurd cc), (λ lt. absurd (omega (arith, lt, ended.2))));
   bad = λ none. IfSome_then before all (λ bytes e. sym (ap first_too_long e ∙ none_too_long_of raws short));
   to_its_end = λ none. ended.1;
@@ -36,7 +36,7 @@ was_read left count raws reader before source None short taken given bound ended
 } where
   all : IfSome before (λ bytes. raw_lines bytes ≡ raws)
   all = all_given raws reader.held before (left source) taken ended.0 ended.1
-was_read left count raws reader before source (Some Read) short taken given bound ended behind = record {
+was_read left faults raws reader before source (Some Read) short taken given bound ended behind = record {
   read = ((λ e. omega (arith, ended.0)), (λ lt. refl));
   bad = λ none. absurd (omega (arith, none, ended.0));
   to_its_end = λ e. absurd cc;
@@ -49,7 +49,7 @@ was_read left count raws reader before source (Some Read) short taken given boun
   read_before =
       let f = front_read raws reader.held [] reader.held before (left source) (sym (append-nil reader.held)) ended.1 ended.2 short taken in
       (f.0, subst (λ w. TakenFrom w before (left source)) (append-nil f.0) f.1, f.2, omega (arith, f.3, given, bound))
-was_read left count raws reader before source (Some (Bad line why)) short taken given bound ended behind = record {
+was_read left faults raws reader before source (Some (Bad line why)) short taken given bound ended behind = record {
   read = ((λ e. absurd cc), (λ lt. absurd (omega (arith, lt, ended.2))));
   bad = λ none. bad_line_is;
   to_its_end = λ e. absurd cc;

@@ -33,7 +33,7 @@ line_taken bytes text held left line = record {
 -- a line that a read made whole
 pub line_read : (before_held piece text held : List ℕ) (before now : Told) → TakenFrom piece before now → StartsWithLine (before_held ++ piece) text held → RawLineTaken text (to_come before_held before) (to_come held now)
 line_read before_held piece text held before now e line =
-    subst (λ told. RawLineTaken text told (to_come held now)) (to_come-read before_held piece before now e) (line_taken (before_held ++ piece) text held now line)
+    subst (λ gone. RawLineTaken text gone (to_come held now)) (to_come-read before_held piece before now e) (line_taken (before_held ++ piece) text held now line)
 
 -- the last line, which no LF ends
 pub last_line_taken : (bytes text : List ℕ) (before now : Told) → AreLastLine bytes text → TakenFrom [] before now → NothingLeft before → RawLineTaken text (to_come bytes before) (to_come [] now)
@@ -45,7 +45,7 @@ last_line_taken bytes text before now line e none = record {
   cut =
       let same = left_stands before now e in
       let left = subst NothingLeft same none in
-      inr (line.some, subst (λ told. TakenFrom bytes (to_come bytes told) (to_come [] now)) (sym same) (all_taken bytes now left), nothing_to_come now left);
+      inr (line.some, subst (λ gone. TakenFrom bytes (to_come bytes gone) (to_come [] now)) (sym same) (all_taken bytes now left), nothing_to_come now left);
 }
 
 -- the texts go with the raw lines

@@ -8,8 +8,8 @@ use Rattle.list_facts.proofs.Outcomes.{unwrapped}
 use Rattle.list_facts.proofs.Slices.{slice_range-behind, slice_range-empty, slice_range-front}
 use Rattle.ygm_run.specs.Lines.{LacksLf, StartsTooLong, text_of}
 use Rattle.ygm_run.specs.Held.{held_in}
-use Rattle.ygm_run.proofs.Held.StartsWithLine.{LacksLf-front, front_within, same_line, carried_line}
-use Rattle.ygm_run.proofs.Held.IsTooLong.{carried_too_long}
+use Rattle.ygm_run.proofs.Held.StartsWithLine.{LacksLf-front, front_within, same_line, joined_line}
+use Rattle.ygm_run.proofs.Held.IsTooLong.{joined_too_long}
 use Rattle.ygm_run.proofs.pieces.Pieces.take_piece.Goals as goal
 
 pub returns-then-len-length-gt-MAX_LINE-clause-too_long : goal.returns-then-len-length-gt-MAX_LINE-clause-too_long
@@ -25,7 +25,7 @@ returns-then-len-length-gt-MAX_LINE-clause-too_long c =
     record {
       err = search rules;
       too_long = λ rest. subst (λ w. StartsTooLong ((before.carry.items ++ w) ++ rest)) (sym waits)
-          (carried_too_long before.carry.items piece n c.requires.open.partial
+          (joined_too_long before.carry.items piece n c.requires.open.partial
           (subst (λ m. LacksLf (take m piece)) (sym c.unwrap_or-length.ensures) partial)
           (omega arith)
           (omega arith)
@@ -64,7 +64,7 @@ returns-clause-line c =
     let empty = slice_range-empty before.buffer.items before.start before.end (omega arith) in
     let grown = pushed (take n piece) refl c.unwrap.ensures c.extend_from_slice.ensures.items in
     let is_piece = ap (take c.args.count) (sym c.deref.ensures.value) in
-    let line = carried_line before.carry.items (take n piece) (drop (n + 1) piece) c.take_carry.result.items
+    let line = joined_line before.carry.items (take n piece) (drop (n + 1) piece) c.take_carry.result.items
     c.requires.open.partial
     (subst (λ m. LacksLf (take m piece)) (sym c.unwrap_or-length.ensures) partial)
     (omega (arith, length-take-le n piece (omega arith)))
