@@ -9,7 +9,7 @@ use Rattle.ygm_run.specs.declared.status.Status.TheVariants.{Done, Usage, OpenFa
 use Rattle.ygm_run.specs.declared.words.UsageKind.{UsageKind}
 use Rattle.ygm_run.specs.Inputs.{AllRead, IsFullAtRank, IsLowestFault}
 
--- where all was done
+-- a fact where the run was complete
 abbrev pub OnDone : Status → Type 0 → Type 0
 OnDone Done P = P
 OnDone (Usage kind) P = ⊤
@@ -20,7 +20,7 @@ OnDone WriteFault P = ⊤
 OnDone NoMemory P = ⊤
 OnDone (CountFull rank at) P = ⊤
 
--- where the text couldn't be written
+-- a fact where the text couldn't be written
 abbrev pub OnWriteFault : Status → Type 0 → Type 0
 OnWriteFault Done P = ⊤
 OnWriteFault (Usage kind) P = ⊤
@@ -31,7 +31,7 @@ OnWriteFault WriteFault P = P
 OnWriteFault NoMemory P = ⊤
 OnWriteFault (CountFull rank at) P = ⊤
 
--- where nothing was to be written
+-- a fact where nothing was written
 abbrev pub UnlessWritten : Status → Type 0 → Type 0
 UnlessWritten Done P = ⊤
 UnlessWritten (Usage kind) P = P
@@ -42,7 +42,7 @@ UnlessWritten WriteFault P = ⊤
 UnlessWritten NoMemory P = P
 UnlessWritten (CountFull rank at) P = P
 
--- where the status says that no open failed: it is neither that of a file nor want of memory
+-- a fact where the status says that no open failed: it names no file, and isn't lack of memory
 abbrev pub UnlessUnopened : Status → Type 0 → Type 0
 UnlessUnopened Done P = P
 UnlessUnopened (Usage kind) P = P
@@ -53,17 +53,17 @@ UnlessUnopened WriteFault P = P
 UnlessUnopened NoMemory P = ⊤
 UnlessUnopened (CountFull rank at) P = P
 
--- the front of a text was put behind what was held
+-- a prefix of a text was appended to what was held
 abbrev pub FrontAppended : List ℕ → Told → Told → Type 0
 FrontAppended text before now = (count : ℕ) × AppendedTo (take count text) before now
 
--- a text was put behind what was held: the whole of it, or its front where a write failed
+-- a text was appended to what was held: all of it, or a prefix of it where a write failed
 abbrev pub IsNoted : List ℕ → Told → Told → ℕ → ℕ → Type 0
 IsNoted text before now faults faults_now = AppendedTo text before now ⊎ (FrontAppended text before now × Rose faults faults_now)
 
--- The cause of a status, each refusal's in the order in which refusals stand: of the words, of a file that isn't opened,
--- of a rank whose count is full, of a rank's input, of a text that isn't written; and what holds where there is none.
--- Want of memory has no cause that is told.
+-- The cause of a status, in the order in which refusals stand: the words, a file that couldn't be opened, a rank whose
+-- count is full, a rank's input, a text that couldn't be written. `done` is what holds where nothing was refused. For
+-- lack of memory no cause is given.
 abbrev pub EndsBy : (refused : UsageKind → Type 0) (unopened : ℕ → Type 0) (full : ℕ → ℕ → Type 0) (fault : ℕ → InputFault → Type 0) (unwritten done : Type 0) → Status → Type 0
 EndsBy refused unopened full fault unwritten done (Usage kind) = refused kind
 EndsBy refused unopened full fault unwritten done (OpenFault file) = unopened file
@@ -78,17 +78,17 @@ EndsBy refused unopened full fault unwritten done NoMemory = ⊤
 abbrev pub Opened : {S : Type 0} → Result (List (List ℕ)) UsageKind → List S → (List (List ℕ) → Type 0) → Type 0
 Opened order sources P = (names : List (List ℕ)) × (order ≡ Ok names) × (length sources ≡ length names) × P names
 
--- The file of this number is the first that couldn't be opened: those before it were, and not a byte of them was read.
+-- The file of this number is the first that couldn't be opened: those before it were, and no byte of them was read.
 pub record IsFirstUnopened {S : Type 0} (left : S → Told) (faults : S → ℕ) (content : List ℕ → Told) (names : List (List ℕ)) (sources : List S) (file : ℕ) : Type 0 where
   pub within : file < length names
   pub opened_before : length sources ≡ file
   pub unread : map left sources ≡ map content (take file names)
   pub no_fault : (rank : ℕ) (source : S) → slice_get sources rank ≡ Some source → faults source ≡ 0
 
--- Why a run ended so. Each refusal stands only where none before it does: the words are refused, or were accepted; a file
+-- Why a run ended so. A refusal stands only where none before it does: the words are refused, or were accepted; a file
 -- couldn't be opened, or each was; a rank's count is full; the input of the lowest rank with a fault failed, or all were
--- read to their ends; the text couldn't be written, or was. `order` is what the words ask for, `content` what the files
--- hold; a source tells what is left and its count of faults.
+-- read to their ends; the text couldn't be written, or was. `order` is what the words ask for, and `content` what the
+-- files contain. A source shows what remains in it (`left`) and its count of faults.
 abbrev pub RunEnds : {S : Type 0} → (S → Told) → (S → ℕ) → Result (List (List ℕ)) UsageKind → (List ℕ → Told) → List S → Type 0 → Type 0 → Status → Type 0
 RunEnds left faults order content sources opening writing =
     EndsBy
@@ -99,6 +99,6 @@ RunEnds left faults order content sources opening writing =
     (Opened order sources (λ names. AllRead left faults (map content names) sources × writing))
     (Opened order sources (λ names. AllRead left faults (map content names) sources))
 
--- the run is done, or memory was wanting
+-- the run was complete, or out of memory
 abbrev pub IsDoneIfMemory : Status → Type 0
 IsDoneIfMemory status = (status ≡ Done) ⊎ (status ≡ NoMemory)

@@ -14,17 +14,17 @@ use Rattle.ygm_run.specs.Lines.{lines_of, raw_lines, text_of, LacksLf, StartsToo
 use Rattle.ygm_run.specs.Reading.{Reading}
 use Rattle.ygm_run.specs.Turns.{PieceBehind, RawLineTaken, to_come}
 
--- the same lines, and more of a rank
+-- the same lines, and more of one rank
 abbrev pub with_lines : (ℕ → List (List ℕ)) → ℕ → List (List ℕ) → ℕ → List (List ℕ)
 with_lines own rank lines other = if other == rank then own other ++ lines else own other
 
--- these raw lines are gone from the front of the bytes, and go before those of any front of what is to come still
+-- These raw lines were taken, the first ones. They come before the raw lines of any prefix of what is still to come.
 pub record LinesTaken (raws : List (List ℕ)) (before now : Told) : Type 0 where
   pub bytes : List ℕ
   pub taken : TakenFrom bytes before now
   pub lines : (front later : List ℕ) → now ≡ Some (front ++ later) → raw_lines (bytes ++ front) ≡ raws ++ raw_lines front
 
--- The world was given lines of a rank: they are on their way, and were the first that were to come. None was too long.
+-- The world was given lines of a rank: they are on their way, and were the next that were to come. None was too long.
 pub record Fed (ranks rank : ℕ) (before after : List (Rank Counts)) (old new : Plain) (reader reader_now : Reading) (left left_now : Told) : Type 0 where
   pub raws : List (List ℕ)
   pub carried : (own : ℕ → List (List ℕ)) → Carried own ranks before old → Carried (with_lines own rank (map text_of raws)) ranks after new
@@ -32,28 +32,28 @@ pub record Fed (ranks rank : ℕ) (before after : List (Rank Counts)) (old new :
   pub short : AllByRecursion (λ raw. length raw ≤ max_line) raws
   pub given : reader_now.given ≡ reader.given + length raws
 
--- a bound on the turns that a rank's input still takes, by the letters that it has sent and the bytes that are held of its next line
+-- a bound on the remaining turns of a rank's reader, by the letters that the rank has sent and the bytes that are held
 abbrev pub turns_left : ℕ → List ℕ → ℕ
 turns_left sent held = (most_letters - sent) * (2 * max_line) + (max_line - length held)
 
--- Why the reading of an input ended: all of it was read, a read failed with no bad line held, or the piece that was read
--- last made the next line too long. The counts are the source's of faults, before and now.
+-- Why reading an input ended: all of it was read, a read failed and no bad line was held, or the last piece made the next
+-- line too long. The counts are those of the source's faults, before and now.
 abbrev pub EndedWith : Option InputFault → Reading → Told → ℕ → ℕ → Type 0
 EndedWith None reader left faults faults_now = (reader.held ≡ []) × NothingLeft left × (faults_now ≡ faults)
 EndedWith (Some Read) reader left faults faults_now = Rose faults faults_now × LacksLf reader.held × (length reader.held ≤ max_line)
 EndedWith (Some (Bad line why)) reader left faults faults_now = IfSome (to_come reader.held left) StartsTooLong × (line ≡ reader.given + 1) × (faults_now ≡ faults) × (before : List ℕ) × PieceBehind before reader.held
 
--- a line is to come that has no more bytes than a line may have
+-- a line is to come that isn't too long
 abbrev pub HasLine : Told → Type 0
 HasLine bytes = (text : List ℕ) × (rest : Told) × RawLineTaken text bytes rest
 
--- The lines of a rank's bytes are on their way, all of them where the input has no fault.
+-- Lines of a rank's input are on their way, all of them where the input has no fault.
 pub record IsSent (ranks rank : ℕ) (before after : List (Rank Counts)) (old new : Plain) (left : Told) (fault : Option InputFault) : Type 0 where
   pub lines : List (List ℕ)
   pub carried : (own : ℕ → List (List ℕ)) → Carried own ranks before old → Carried (with_lines own rank lines) ranks after new
   pub all : fault ≡ None → IfSome left (λ bytes. lines ≡ lines_of bytes)
 
--- What a turn of a rank's reader did. Where the reader is done then, all was read or this fault was met.
+-- What a turn of a rank's reader did. If the reader is done after it, all was read or this fault was met.
 pub record TurnFed {S : Type 0} (left : S → Told) (faults : S → ℕ) (ranks rank : ℕ) (before after : List (Rank Counts)) (old new : Plain) (reader reader_now : Reading) (source source_now : S) (fault : Option InputFault) : Type 0 where
   pub ready : AreReady after new
   pub fed : Fed ranks rank before after old new reader reader_now (left source) (left source_now)

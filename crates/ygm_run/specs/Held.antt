@@ -1,4 +1,4 @@
--- Only private functions and the private view of a reader cite this: the bytes that were read and not given yet.
+-- Only private functions and the private view of a reader cite this: the bytes that were read and not returned yet.
 use Rattle.std.specs.Prelude.{◌≡◌, ℕ, ◌+◌, ◌<◌, ◌≤◌, List, ◌∷◌, ◌++◌, length, take, vec_len, vec_capacity, slice_range}
 use Rattle.ygm_io.specs.Content.{Told, TakenFrom, NothingLeft}
 use Rattle.ygm_run.specs.declared.pieces.Pieces.{Pieces}
@@ -6,15 +6,15 @@ use Rattle.ygm_run.specs.declared.pieces.TheConstants.{READING_SPACE}
 use Rattle.ygm_run.specs.Limits.{max_line}
 use Rattle.ygm_run.specs.Lines.{text_of, LacksLf, StartsTooLong}
 
--- the bytes of the piece that was read last, without those that were given
+-- the bytes of the last piece, without those that were returned
 abbrev pub buffered_in : Pieces → List ℕ
 buffered_in pieces = slice_range pieces.buffer.items pieces.start pieces.end
 
--- the bytes that were read and not given
+-- the bytes that were read and not returned
 abbrev pub held_in : Pieces → List ℕ
 held_in pieces = pieces.carry.items ++ buffered_in pieces
 
--- these and the first bytes of the buffer, which were read after them
+-- these, followed by the first bytes of the buffer, which were read after them
 abbrev pub held_with : ℕ → Pieces → List ℕ
 held_with count pieces = held_in pieces ++ take count pieces.buffer.items
 
@@ -27,13 +27,13 @@ pub record AreOpen (pieces : Pieces) : Type 0 where
   pub short : vec_len pieces.carry ≤ max_line
   pub one_place : 0 < vec_len pieces.carry → pieces.start ≡ pieces.end
 
--- all that is held lies in the carry, which has room for a whole piece behind it
+-- all that is held is in the carry, which has room for a whole piece more
 pub record AreGathered (pieces : Pieces) : Type 0 where
   pub start : pieces.start ≡ 0
   pub end : pieces.end ≡ 0
   pub room : vec_len pieces.carry + READING_SPACE ≤ vec_capacity pieces.carry
 
--- the bytes are a line of this text, its LF and the rest
+-- the bytes are a line of this text, its LF and what follows
 pub record StartsWithLine (bytes text rest : List ℕ) : Type 0 where
   pub raw : List ℕ
   pub whole : bytes ≡ raw ++ 10 ∷ rest
@@ -48,12 +48,12 @@ pub record AreLastLine (bytes text : List ℕ) : Type 0 where
   pub short : length bytes ≤ max_line
   pub text_is : text ≡ text_of bytes
 
--- a line was cut off the front of the bytes, and what is held then came in one piece
+-- the first line of the bytes was taken, and what remains held came in one piece
 pub record GaveText (bytes text held : List ℕ) : Type 0 where
   pub line : StartsWithLine bytes text held
   pub bound : length held ≤ READING_SPACE
 
--- the bytes are held, and have no whole line and are none that is too long
+-- the bytes are held; they have no whole line, and aren't too long
 pub record IsPartial (bytes held : List ℕ) : Type 0 where
   pub none : held ≡ bytes
   pub partial : LacksLf held

@@ -5,7 +5,7 @@ use Rattle.ygm_io.specs.Content.{Told}
 use Rattle.ygm_run.specs.Lines.{first_too_long, lines_of, raw_lines}
 use Rattle.ygm_run.specs.TallyText.{all_lines}
 
--- all of the sources tell, these bytes
+-- all sources expose their bytes, and these are they
 abbrev pub AreExposed : List Told → List (List ℕ) → Type 0
 AreExposed lefts bytes = lefts ≡ map Some bytes
 

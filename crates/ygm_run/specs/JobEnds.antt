@@ -14,16 +14,16 @@ use Rattle.ygm_run.specs.Ending.{EndsBy}
 use Rattle.ygm_run.specs.Job.{AreExposed, lines_of_each}
 use Rattle.ygm_run.specs.TallyText.{tally_text}
 
--- a fact of the job's text, where the files tell their bytes
+-- a fact of the job's text, where the files expose their bytes
 abbrev pub OfText : List Told → (List ℕ → Type 0) → Type 0
 OfText contents P = (bytes : List (List ℕ)) → AreExposed contents bytes → P (tally_text (lines_of_each bytes))
 
--- why the job ended so over these files, each of which was opened
+-- why the job over these files, each of which was opened, ended so
 abbrev pub JobEnds : {S : Type 0} → (S → Told) → (S → ℕ) → List Told → List S → Type 0 → Status → Type 0
 JobEnds left faults contents sources writing =
     EndsBy (λ _. ⊥) (λ _. ⊥) (IsFullAtRank left faults contents sources) (IsLowestFault left faults contents sources) (AllRead left faults contents sources × writing) (AllRead left faults contents sources)
 
--- a status other than want of memory
+-- a fact unless memory ran out
 abbrev pub UnlessNoMemory : Status → Type 0 → Type 0
 UnlessNoMemory Done P = P
 UnlessNoMemory (Usage kind) P = P
@@ -51,7 +51,7 @@ StopsBy full fault JobNoMemory = ⊤
 abbrev pub JobStops : {S : Type 0} → (S → Told) → (S → ℕ) → List Told → List S → JobFault → Type 0
 JobStops left faults contents sources = StopsBy (IsFullAtRank left faults contents sources) (IsLowestFault left faults contents sources)
 
--- a rank's fault as one of the job; no rank's is a stop
+-- a rank's fault as one of the job; none is a stop
 abbrev pub IsFaultOf : ℕ → CommFault → JobFault → Type 0
 IsFaultOf rank (CommFull at) fault = fault ≡ JobFull rank at
 IsFaultOf rank CommNoMemory fault = fault ≡ JobNoMemory

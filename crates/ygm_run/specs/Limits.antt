@@ -1,7 +1,7 @@
 -- The numbers that bound a run.
 use Rattle.std.specs.Prelude.{ℕ, ◌^◌}
 
--- the bytes that a line may have, a CR counted and its LF not
+-- the bytes that a line may have, including a CR and without its LF
 abbrev pub max_line : ℕ
 max_line = 1000000
 

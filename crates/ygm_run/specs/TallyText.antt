@@ -11,7 +11,7 @@ use Rattle.std.specs.Borrow.{Bor}
 abbrev pub byte_order : List ℕ → List ℕ → Ordering
 byte_order = slice_cmp nat_cmp
 
--- an item stands before another in byte order
+-- an item comes before another in byte order
 abbrev pub IsBefore : List ℕ → List ℕ → Type 0
 IsBefore item other = byte_order item other ≡ Less
 
@@ -23,7 +23,7 @@ all_lines files = flat_map (λ lines. lines) files
 abbrev pub times : List ℕ → List (List ℕ) → ℕ
 times item lines = count_by (λ line. bytes_eq item line) lines
 
--- the items that stand among the lines, each once and in byte order
+-- the items among the lines, each once and in byte order
 abbrev pub distinct_items : List (List ℕ) → List (List ℕ)
 distinct_items [] = []
 distinct_items (line ∷ lines) = insert_key byte_order (distinct_items lines) line
@@ -36,11 +36,11 @@ tally_row item count = decimal count ++ codes "\t" ++ item ++ codes "\n"
 abbrev pub tally_rows : List (List ℕ × ℕ) → List ℕ
 tally_rows counted = flat_map (λ pair. tally_row pair.0 pair.1) counted
 
--- pairs by item, and by count where the items are equal
+-- the order of pairs: by item, and by count where the items are equal
 abbrev pub pair_order : List ℕ × ℕ → List ℕ × ℕ → Ordering
 pair_order pair other = ordering_then (byte_order pair.0 other.0) (nat_cmp pair.1 other.1)
 
--- a text is a row for each pair, in order of the pairs
+-- a text is a row for each pair, and the pairs are sorted
 pub record IsTableOf (counted : List (List ℕ × ℕ)) (text : List ℕ) : Type 0 where
   pub sorted : List (List ℕ × ℕ)
   pub same_pairs : IsPermutation counted sorted
@@ -57,11 +57,11 @@ tally_text files = table_with (distinct_items (all_lines files)) (all_lines file
 
 -- the pairs of an item and a count, in some order, are the distinct lines with their numbers
 pub record AreCounts (counted : List (List ℕ × ℕ)) (lines : List (List ℕ)) : Type 0 where
-  -- no item stands in two pairs
+  -- no item is in two pairs
   pub once : AllPairs (λ pair later. pair.0 ≢ later.0) counted
   -- an item and a count are a pair exactly where so many lines, and at least one, are equal to the item
   pub exact : (item : List ℕ) (count : ℕ) → Contains counted (item, count) ↔ ((count ≡ times item lines) × (0 < count))
 
--- the pairs that entries of borrowed items and counts are
+-- the pairs of entries, which borrow their items
 abbrev pub pairs_of : List (Bor (List ℕ) × ℕ) → List (List ℕ × ℕ)
 pairs_of entries = map (λ entry. (entry.0.now, entry.1)) entries

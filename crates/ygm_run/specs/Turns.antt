@@ -15,11 +15,11 @@ use Rattle.ygm_run.specs.Reading.{Reading}
 abbrev pub TurnResult : Type 0
 TurnResult = Result Got LineFault
 
--- the bytes that were read and not given, and behind them those that are left
+-- the bytes held, followed by those that remain in the source
 abbrev pub to_come : List ℕ → Told → Told
 to_come held left = option_map (λ rest. held ++ rest) left
 
--- the lines of these bytes, where they are told
+-- the lines of these bytes, where they are exposed
 abbrev pub lines_to_come : List ℕ → Told → Option (List (List ℕ))
 lines_to_come held left = option_map (λ rest. lines_of (held ++ rest)) left
 
@@ -27,11 +27,11 @@ lines_to_come held left = option_map (λ rest. lines_of (held ++ rest)) left
 abbrev pub FirstTaken : List ℕ → Option (List (List ℕ)) → Option (List (List ℕ)) → Type 0
 FirstTaken line before now = before ≡ option_map (λ lines. line ∷ lines) now
 
--- the raw line stood at the front with its LF behind it, or was all that was to come
+-- the raw line came first, followed by its LF, or was all that was to come
 abbrev pub CutOff : List ℕ → Told → Told → Type 0
 CutOff raw before now = TakenFrom (raw ++ 10 ∷ []) before now ⊎ ((0 < length raw) × TakenFrom raw before now × NothingLeft now)
 
--- a raw line of this text is gone from the bytes that are to come, and had no more bytes than a line may have
+-- a raw line of this text was taken from the bytes to come, and wasn't too long
 pub record RawLineTaken (text : List ℕ) (before now : Told) : Type 0 where
   pub raw : List ℕ
   pub text_is : text ≡ text_of raw
@@ -39,11 +39,11 @@ pub record RawLineTaken (text : List ℕ) (before now : Told) : Type 0 where
   pub partial : LacksLf raw
   pub cut : CutOff raw before now
 
--- at most a piece is gone from the front of what was left
+-- at most one piece was taken from the front of what remained
 abbrev pub PieceTaken : Told → Told → Type 0
 PieceTaken before now = (piece : List ℕ) × TakenFrom piece before now × (length piece ≤ max_piece)
 
--- a piece went behind bytes in which no line ends, and which were no more than a line may have
+-- a piece was appended to bytes that have no LF and aren't too long
 pub record PieceBehind (before now : List ℕ) : Type 0 where
   pub piece : List ℕ
   pub behind : now ≡ before ++ piece
@@ -53,14 +53,14 @@ pub record PieceBehind (before now : List ℕ) : Type 0 where
 
 -- ---- facts by what a turn returns
 
--- a fact of the line that was given
+-- a fact of the line that was returned
 abbrev pub IfLine : TurnResult → (List ℕ → Type 0) → Type 0
 IfLine (Ok (Line line)) P = P line
 IfLine (Ok More) P = ⊤
 IfLine (Ok End) P = ⊤
 IfLine (Err fault) P = ⊤
 
--- a fact where none was given
+-- a fact where no line was returned
 abbrev pub UnlessLine : TurnResult → Type 0 → Type 0
 UnlessLine (Ok (Line line)) P = ⊤
 UnlessLine (Ok More) P = P
@@ -114,7 +114,7 @@ is_last (Err ReadFault) = true
 is_last (Err (LineTooLong number)) = true
 is_last (Err NoMemory) = false
 
--- neither a line nor a promise of one: the end, or a fault that says nothing of the lines
+-- the end, a failed read or lack of memory
 abbrev pub EndsOrFails : TurnResult → Type 0
 EndsOrFails (Ok (Line line)) = ⊥
 EndsOrFails (Ok More) = ⊥
@@ -125,14 +125,14 @@ EndsOrFails (Err NoMemory) = ⊤
 
 -- ---- the outcomes of a turn, from the reader and its source before and after it
 
--- A line was given. Over a source that exposes its bytes, it is the first of those that were to come.
+-- A line was returned. If the source exposes its bytes, it is the next line.
 pub record GaveLine {S : Type 0} (left : S → Told) (text : List ℕ) (old new : Reading) (source_old source_new : S) : Type 0 where
   pub line : FirstTaken text (lines_to_come old.held (left source_old)) (lines_to_come new.held (left source_new))
   pub raw_line : RawLineTaken text (to_come old.held (left source_old)) (to_come new.held (left source_new))
   pub line_counted : new.given ≡ next_count old.given
   pub line_bound : length new.held ≤ max_piece
 
--- No line was given, and no byte was lost or repeated.
+-- No line was returned, and no byte was lost or repeated.
 pub record GaveNoLine {S : Type 0} (left : S → Told) (old new : Reading) (source_old source_new : S) : Type 0 where
   pub to_come_stands : to_come new.held (left source_new) ≡ to_come old.held (left source_old)
   pub number_stands : new.given ≡ old.given
@@ -148,27 +148,27 @@ pub record MetEnd {S : Type 0} (left : S → Told) (old new : Reading) (source_o
   pub end_all_given : (old.held ≡ []) × (new.held ≡ [])
   pub end_nothing_left : NothingLeft (to_come old.held (left source_old))
 
--- The next line, of this number, is too long. The piece that this turn read made it so.
+-- The next line, which has this number, is too long. It became so by the piece that this turn read.
 pub record MetTooLong {S : Type 0} (left : S → Told) (number : ℕ) (old new : Reading) (source_old : S) : Type 0 where
   pub too_long : StartsTooLong new.held
   pub too_long_to_come : IfSome (to_come old.held (left source_old)) StartsTooLong
   pub too_long_by_a_piece : PieceBehind old.held new.held
   pub too_long_number : number ≡ next_count old.given
 
--- The read failed, and took nothing. What is held has no whole line, and is no line that is too long.
+-- The read failed, and took nothing. What is held has no whole line, and isn't too long.
 pub record ReadFailed {S : Type 0} (left : S → Told) (faults : S → ℕ) (held : List ℕ) (source_old source_new : S) : Type 0 where
   pub cause : Rose (faults source_old) (faults source_new)
   pub read_fault_takes_nothing : left source_new ≡ left source_old
   pub read_fault_is_partial : LacksLf held × (length held ≤ max_line)
 
--- The turn was out of memory before it read, and changed nothing.
+-- Memory ran out before the read, and nothing changed.
 pub record ChangedNothing {S : Type 0} (old new : Reading) (source_old source_new : S) : Type 0 where
   pub no_memory : new ≡ old
   pub no_memory_source : source_new ≡ source_old
 
 -- what holds after each turn
 pub record TookTurn {S : Type 0} (left : S → Told) (faults : S → ℕ) (result : TurnResult) (old new : Reading) (source_old source_new : S) : Type 0 where
-  -- where nothing is to come, there is no other result but a fault of reading or of memory
+  -- where nothing is to come, the result is the end, a failed read or lack of memory
   pub end_if_nothing_to_come : to_come old.held (left source_old) ≡ Some [] → EndsOrFails result
   pub faults_stand : UnlessReadFault result (faults source_new ≡ faults source_old)
   pub never_falls : faults source_old ≤ faults source_new

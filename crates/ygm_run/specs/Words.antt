@@ -25,7 +25,7 @@ files_of (word ∷ words) =
     else if starts_with nat_eq word (codes "--") then Err UnknownOption
     else Ok (word ∷ words)
 
--- the files of which there is one at least, and at most one for each rank
+-- the files, of which there are 1 to 32
 abbrev pub with_ranks : Result (List (List ℕ)) UsageKind → Result (List (List ℕ)) UsageKind
 with_ranks (Err kind) = Err kind
 with_ranks (Ok files) =
@@ -33,12 +33,12 @@ with_ranks (Ok files) =
     else if nat_lt max_ranks (length files) then Err TooManyRanks
     else Ok files
 
--- the files that words give to the job tally, or the first refusal that holds
+-- the files for the job tally that the words name, or the first refusal that applies
 abbrev pub order_of : List (List ℕ) → Result (List (List ℕ)) UsageKind
 order_of [] = Err NoJob
 order_of (job ∷ words) = if bytes_eq job (codes "tally") then with_ranks (files_of words) else Err UnknownJob
 
--- the files of words that are accepted, and none of those that are refused
+-- the files of accepted words, and none of refused ones
 abbrev pub named : Result (List (List ℕ)) UsageKind → List (List ℕ)
 named (Ok names) = names
 named (Err kind) = []

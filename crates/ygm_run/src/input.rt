@@ -1,4 +1,4 @@
-//! A rank's file, from its bytes to letters on their way.
+//! A rank's file: its bytes are read, and its lines are sent.
 ghost use Rattle.std.specs.Prelude.{◌≡◌, ◌<◌, ◌≤◌, ◌^◌, false, slice_index, IfOk, IfErr, OnOk};
 ghost use Rattle.comm_rank.specs.Fault.{IfCountFull, NeverStopped};
 ghost use Rattle.ygm_run.specs.Limits.{most_letters};
@@ -13,7 +13,7 @@ use comm_rank::CommFault;
 use std::alloc::Global;
 use ygm_io::Source;
 
-// Takes a turn of the reader, and sends the line that it gives. Where the reader is done then, all was read or this
+// Takes a turn of the reader, and sends the line that it returns. If the reader is done after it, all was read or this
 // fault was met.
 fn take_turn<S: Source>(
     world: &mut World,

@@ -12,7 +12,7 @@ use std::marker::Model;
 use thiserror::Error;
 use ygm_io::Source;
 
-/// The text of a line: its bytes without its LF and without a CR right before that or at the input's end.
+/// The text of a line: its bytes without the LF, and without a CR directly before the LF or at the input's end.
 #[derive(Debug, Drop)]
 pub struct Line {
     text: Vec<u8>,
@@ -30,7 +30,7 @@ impl Model for Line {
 }
 
 impl Line {
-    /// The bytes. No memory is taken.
+    /// The bytes. Takes no memory.
     pub fn as_slice(&self) -> &[u8]
         ensures bytes { result.now ≡ self.now }
         ensures short { length result.now ≤ max_line }
@@ -50,32 +50,32 @@ impl From<AllocError> for LineFault {
     }
 }
 
-/// What a turn gave.
+/// What a turn returned.
 #[derive(Debug, Drop)]
 pub enum Got {
     /// The next line.
     Line(Line),
-    /// The turn's read gave bytes, and no line is whole yet.
+    /// The turn read bytes, and no line is whole yet.
     More,
-    /// The source ended, and every line was given.
+    /// The source ended, and every line was returned.
     End,
 }
 
-/// Why a turn gave nothing.
+/// Why a turn failed.
 #[derive(Clone, Copy, Debug, PartialEq, Eq, Error)]
 pub enum LineFault {
-    /// The source's count of faults rose. The reader is done.
+    /// A read failed: the source's count of faults rose. The reader is done.
     #[error("the input can't be read")]
     ReadFault,
     /// The line of this number, from 1, has more than 1,000,000 bytes before its LF or the end. The reader is done.
     #[error("line {line} is too long")]
     LineTooLong { line: u64 },
-    /// Answered before the read. Nothing changed, and the next turn tries again.
+    /// Memory ran out before the read. Nothing changed, and the next turn tries again.
     #[error("out of memory")]
     NoMemory,
 }
 
-/// Reads lines, at most one piece in each turn, whatever sizes the pieces have.
+/// Reads lines, at most one piece in each turn. The pieces may have any sizes.
 #[derive(Debug, Drop)]
 pub struct LineReader {
     pieces: Pieces,
@@ -96,8 +96,8 @@ impl Model for LineReader {
 }
 
 impl LineReader {
-    /// A reader that has read nothing. It takes the space for one piece, and more later where a line
-    /// goes over a piece's end.
+    /// A reader that has read nothing. It takes memory for one piece, and more later where a line goes
+    /// over the end of a piece.
     pub fn new(alloc: Global) -> Result<LineReader, AllocError>
         ensures { IfOk result (λ reader. reader ≡ record { held = []; given = 0; done = false }) }
     {
@@ -108,15 +108,14 @@ impl LineReader {
         })
     }
 
-    /// Gives the next line, after at most one read. A line's bytes may come in any pieces. After a line
-    /// that was given the next turn goes on behind it.
+    /// Returns the next line, after at most one read. A line's bytes may come in any pieces.
     ///
-    /// What memory the turn needs is taken before the read, so that `NoMemory` leaves the reader and the
-    /// source as they were. After `ReadFault`, `LineTooLong` and `End` there is no other turn.
+    /// The turn takes its memory before it reads, so after `NoMemory` the reader and the source are
+    /// unchanged. After `ReadFault`, `LineTooLong` and `End` there is no other turn.
     pub fn turn<S: Source>(&mut self, source: &mut S) -> Result<Got, LineFault>
         requires { self.old.done ≡ false }
         ensures line { IfLine result (λ text. GaveLine S.left text self.old self.new source.old source.new) }
-        // Every other result loses and repeats nothing.
+        // No other result loses or repeats a byte.
         ensures no_line { UnlessLine result (GaveNoLine S.left self.old self.new source.old source.new) }
         ensures more { OnMore result (ReadMore self.old self.new) }
         ensures end { OnEnd result (MetEnd S.left self.old self.new source.old) }
@@ -152,7 +151,7 @@ impl LineReader {
         }
     }
 
-    /// Counts a line and hands it out.
+    /// Counts a line and returns it.
     fn give(&mut self, text: Vec<u8>) -> Got
         requires { length text.items ≤ max_line }
         ensures line { result ≡ Got.Line text.items }
@@ -162,15 +161,15 @@ impl LineReader {
         Got::Line(Line { text })
     }
 
-    /// Whether there is no other turn: one answered the end, a fault of reading or a line that is too
-    /// long. No memory is taken.
+    /// Whether there is no other turn: the last one returned the end, a failed read or a line that is too
+    /// long. Takes no memory.
     pub fn done(&self) -> bool
         ensures { result ≡ self.now.done }
     {
         self.done
     }
 
-    /// How many lines were given; it stands still at 2^64 - 1. No memory is taken.
+    /// How many lines were returned. The count stays at 2^64 - 1. Takes no memory.
     pub fn line_number(&self) -> u64
         ensures { result ≡ self.now.given }
     {

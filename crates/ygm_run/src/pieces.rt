@@ -1,4 +1,4 @@
-//! The bytes that were read and not given yet.
+//! The bytes that were read and not returned yet.
 ghost use Rattle.std.specs.Prelude.{◌≡◌, ◌+◌, ◌<◌, ◌≤◌, [], ◌∷◌, ◌++◌, length, take, drop, IfSome, IfNone, IfOk, OnOk, OnErr};
 ghost use Rattle.ygm_run.specs.Limits.{max_line};
 ghost use Rattle.ygm_run.specs.Lines.{LacksLf, text_of};
@@ -13,22 +13,22 @@ use ygm_io::{Failed, Source};
 /// How many bytes one read asks for.
 pub const READING_SPACE: usize = 65_536;
 
-/// How many bytes a line has at most, a CR counted and its LF not.
+/// How many bytes a line has at most, including a CR and without its LF.
 const MAX_LINE: usize = 1_000_000;
 
 /// The present line has more bytes than a line may have.
 pub struct TooLong;
 
-/// The bytes that were read and not given yet: those of the present line from earlier pieces, and the
-/// rest of the last piece. A byte is searched for an LF once.
+/// The bytes that were read and not returned yet: those of the present line from earlier pieces, and what
+/// remains of the last piece. A byte is searched for an LF once.
 #[derive(Debug, Drop)]
 pub struct Pieces {
     alloc: Global,
-    /// What a source reads into; the bytes from `start` to `end` wait to be given.
+    /// What a source reads into. The bytes from `start` to `end` are still to be returned.
     pub buffer: Vec<u8>,
     pub start: usize,
     pub end: usize,
-    /// The bytes of the present line from earlier pieces, which hold no LF.
+    /// The bytes of the present line from earlier pieces. They have no LF.
     pub carry: Vec<u8>,
 }
 
@@ -46,7 +46,7 @@ impl Pieces {
         })
     }
 
-    /// The text of the first line, where the buffer holds it whole. It is copied before anything changes.
+    /// The text of the first line, if the buffer has all of it. It is copied before anything changes.
     pub fn whole_line(&mut self) -> Result<Option<Vec<u8>>, AllocError>
         requires { AreOpen self.old }
         ensures open { OnOk result (AreOpen self.new) }
@@ -65,7 +65,7 @@ impl Pieces {
         Ok(Some(text))
     }
 
-    /// Moves what waits in the buffer to the carry, and takes the room for a whole piece behind it.
+    /// Moves what is still in the buffer to the carry, and takes memory there for a whole piece more.
     pub fn gather(&mut self) -> Result<(), AllocError>
         requires open { AreOpen self.old }
         requires partial { LacksLf (held_in self.old) }
@@ -96,7 +96,7 @@ impl Pieces {
         source.read(&mut self.buffer)
     }
 
-    /// The text of the last line, which no LF ends, where there is one.
+    /// The text of the last line, which no LF ends, if there is one.
     pub fn last_line(&mut self) -> Option<Vec<u8>>
         requires open { AreOpen self.old }
         requires gathered { AreGathered self.old }
@@ -111,8 +111,8 @@ impl Pieces {
         Some(self.take_carry())
     }
 
-    /// Takes the piece that was read, and answers the text of the line that it made whole, if it did.
-    /// No memory is taken: the line gets the carry itself.
+    /// Takes in the piece that was read, and returns the text of the line that it made whole, if it did.
+    /// Takes no memory: the line gets the carry itself.
     pub fn take_piece(&mut self, count: usize) -> Result<Option<Vec<u8>>, TooLong>
         requires open { AreOpen self.old }
         requires gathered { AreGathered self.old }
@@ -138,7 +138,7 @@ impl Pieces {
         Ok(Some(self.take_carry()))
     }
 
-    /// The carry without a CR at its end. An empty one stands in its place.
+    /// The carry without a CR at its end. An empty one takes its place.
     fn take_carry(&mut self) -> Vec<u8>
         ensures text { result.items ≡ text_of self.old.carry.items }
         ensures taken { self.new ≡ record self.old { carry = self.new.carry } }
@@ -151,7 +151,7 @@ impl Pieces {
     }
 }
 
-/// Where the first LF stands.
+/// Where the first LF is.
 fn line_end(bytes: &[u8]) -> Option<usize>
     ensures within { IfSome result (λ end. end < length bytes.now) }
     ensures partial { IfSome result (λ end. LacksLf (take end bytes.now)) }

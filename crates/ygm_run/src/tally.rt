@@ -1,4 +1,4 @@
-//! The job `tally`: how often each line stands in the files.
+//! The job `tally`: how often each line occurs in the files.
 ghost use Rattle.std.specs.Prelude.{◌≡◌, ◌<◌, ◌≤◌, ℕ, List, [], Some, map, length, slice_get, slice_index_or, IfOk, IfErr, OnOk};
 ghost use Rattle.std.specs.Option.{option_map};
 ghost use Rattle.comm_rank.specs.Fault.{NeverStopped};
@@ -59,8 +59,8 @@ fn with_rank(rank: u32, fault: Option<InputFault>) -> Option<(u32, InputFault)>
     fault.map(|fault| (rank, fault))
 }
 
-// Reads each file, in the order of ranks, and sends its lines. One that has a fault leaves the others to be read, and
-// the fault of the lowest rank is answered.
+// Reads each file, in the order of ranks, and sends its lines. After a fault of one file the others are still read, and
+// the fault of the lowest rank is returned.
 fn read_all<S: Source>(alloc: Global, world: &mut World, sources: &mut [S]) -> Result<(), JobFault>
     requires all { length sources.old ≡ world.old.ranks }
     requires fresh { (rank : ℕ) (source : S) → slice_get sources.old rank ≡ Some source → S.faults source ≡ 0 }
@@ -88,7 +88,7 @@ fn read_all<S: Source>(alloc: Global, world: &mut World, sources: &mut [S]) -> R
     }
 }
 
-/// The text of the sources' lines: of each rank its own source, of which nothing was read yet.
+/// The text of the sources' lines. Each rank has a source of its own, of which nothing was read yet.
 pub(crate) fn tally<S: Source>(alloc: Global, sources: &mut [S]) -> Result<Vec<u8>, JobFault>
     requires some { 0 < length sources.old }
     requires few { length sources.old ≤ max_ranks }
@@ -105,7 +105,7 @@ pub(crate) fn tally<S: Source>(alloc: Global, sources: &mut [S]) -> Result<Vec<u
     read_all(alloc, &mut world, sources)?;
     match world.drain() {
         Ok(()) => Ok(world.text()?),
-        // A drain is refused for want of memory alone.
+        // A drain fails only for lack of memory.
         Err(_) => Err(JobFault::NoMemory),
     }
 }

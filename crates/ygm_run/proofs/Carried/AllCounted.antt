@@ -1,4 +1,4 @@
--- Where no letter waits, what the ranks keep are the counts of all lines.
+-- Where everything that was sent has run, what the ranks keep are the counts of all lines.
 use Rattle.std.proofs.Common.{◌≡◌, ◌≢◌, inl, inr, ℕ, ◌-◌, ◌^◌, ◌<◌, ◌≤◌, eqb, Bool, true, false, ◌&&◌, IsTrue, cond, slice_get, Some, List, [], ◌∷◌, map, length, get_or, sum_by, bytes_eq, flat_map, refl, sym, ap, subst, ◌∙◌, arith, ltb-true}
 use Rattle.std.specs.List.{AllByRecursion}
 use Rattle.std.proofs.lemmas.Bool.{eq-eqb, ne_eqb, cases_eq}
@@ -119,7 +119,7 @@ module _ (files : List (List (List ℕ))) (ranks : ℕ) (comms : List (Rank Coun
       λ s f. omega (arith, sum_by-ones (letters_from s (ran d)), ap length (ran_of s d f t), length-letters_of ranks s d (own s), h.few s) in
       omega (arith, length-map (ran d) item_of, sum_by-ones (ran d), sum_by-senders (λ l. 1) ranks (ran d) (below d t), sum_upto-le (λ s. sum_by (λ l. 1) (letters_from s (ran d))) (most_letters) ranks each, most)
 
-  -- an item was counted at its owner as often as it stands among all lines, and nowhere else
+  -- an item was counted at its owner as often as it is among all lines, and nowhere else
   times_at : (x : List ℕ) (d : ℕ) → d < ranks → times x (counted_at d) ≡ cond (eqb (owner_of_key x ranks) d) (times x (all_lines files)) 0
   times_at x d t =
       sum_by-map (λ line. cond (bytes_eq x line) 1 0) item_of (ran d)
@@ -182,7 +182,7 @@ module _ (files : List (List (List ℕ))) (ranks : ℕ) (comms : List (Rank Coun
       subst (λ counted. AreCounts counted (all_lines files)) (flat_map-map (λ (shard : Counts). shard) (λ (m : Rank Counts). m.contents) comms)
       (AreCounts-from_shards (λ x. owner_of_key x ranks) shards (all_lines files) shards_of_carried)
 
--- where each rank sent the lines of its file and no letter waits, what the ranks keep are the counts of all lines
+-- where each rank sent the lines of its file, and all of that has run, what the ranks keep are the counts of all lines
 pub counts_of_carried : (files : List (List (List ℕ))) (ranks : ℕ) (comms : List (Rank Counts)) (links : Plain)
     → length files ≡ ranks → 0 < ranks → ranks ≤ max_ranks
     → Carried (λ r. get_or files r []) ranks comms links

@@ -1,4 +1,4 @@
--- What the calls on a world of ranks do, from what the calls on its parts ensure.
+-- What calls on a world of ranks do, from what calls on its parts ensure.
 use Rattle.std.proofs.Common.{◌≡◌, ◌≢◌, ℕ, ◌+◌, ◌<◌, ◌≤◌, ◌^◌, true, false, List, [], ◌∷◌, ◌++◌, Some, Result, Ok, Err, OnOk, IfErr, IsErr, refl, length, set, take, drop, get_or, sym, ap, ◌∙◌, subst, inl, inr, arith, slice_get, append-nil, length-set}
 use Rattle.std.specs.Option.{option_map}
 use Rattle.std.proofs.lemmas.Bool.{cases_eq, cases_lt, false≢true}

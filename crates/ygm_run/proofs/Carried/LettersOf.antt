@@ -26,7 +26,7 @@ item_of l = item_in (adds l)
 abbrev pub AddsOne : Letter → Type 0
 AddsOne l = adds l ≡ Some (item_of l, 1)
 
--- a line has at most as many bytes as a line may have
+-- the line isn't too long
 abbrev pub IsShort : List ℕ → Type 0
 IsShort line = length line ≤ max_line
 
@@ -89,7 +89,7 @@ same_owner x line ranks to =
           rw (bytes_eq-other x line other) (none (eqb (owner_of_key line ranks) to) ∙ sym (none (eqb (owner_of_key x ranks) to)))
     ]
 
--- the letters of lines to an item's owner add it as often as it stands among the lines, and those to others don't
+-- the letters of lines to an item's owner add it as often as it is among the lines, and those to others don't
 pub counted_in_letters : (x : List ℕ) (ranks from to : ℕ) (lines : List (List ℕ)) → AllByRecursion IsShort lines
     → sum_by (one_if_adds x) (letters_of ranks from to lines) ≡ cond (eqb (owner_of_key x ranks) to) (times x lines) 0
 counted_in_letters x ranks from to [] short = sym (none (eqb (owner_of_key x ranks) to))

@@ -1,4 +1,4 @@
--- Lines are sent, and letters run, while all lines stay on their way.
+-- Lines are sent and letters run, and `Carried` and `AreReady` still hold.
 use Rattle.std.proofs.Common.{◌≡◌, ◌≢◌, ℕ, ◌+◌, ◌<◌, ◌≤◌, ◌^◌, cond, eqb, false, zero, replicate, List, [], ◌∷◌, ◌++◌, Some, length, map, set, suc, refl, sym, ap, ◌∙◌, subst, inl, inr, arith, slice_get, length-append, length-set, append-nil}
 use Rattle.std.proofs.lemmas.List.{map-append, get_or-replicate}
 use Rattle.std.proofs.lemmas.List.Elements.{filter-append}
@@ -27,7 +27,7 @@ use Rattle.counting_set.specs.Owner.{owner_of_key}
 use Rattle.counting_set.proofs.Sums.{handed-none}
 use Rattle.ygm_run.specs.Carried.{AreFresh, AreReady, Carried, IsQuietFrom, letters_of, sent_counts, with_line}
 
--- what stands at the place that was changed
+-- the element at the place that was changed
 pub placed : {X : Type 0} (xs : List X) (k r : ℕ) (x y : X) → r ≡ k → slice_get (set xs k y) r ≡ Some x → y ≡ x
 placed xs k r x y is at =
     let there = subst (λ i. slice_get (set xs k y) i ≡ Some x) is at in

@@ -61,7 +61,7 @@ ends_so r1 r2 o1 o2 f1 f2 i1 i2 w1 w2 d1 d2 r o f i w d NoMemory p = tt
 pub noted_under : (order : Result (List (List ℕ)) UsageKind) (names : List (List ℕ)) (status : Status) (before now : Told) (faults faults_now : ℕ) → order ≡ Ok names → IsNoted (note_text status names) before now faults faults_now → IsNoted (note_text status (named order)) before now faults faults_now
 noted_under order names status before now faults faults_now e h = subst (λ o. IsNoted (note_text status (named o)) before now faults faults_now) (sym e) h
 
--- where something was written, nothing is asked
+-- where something was written
 pub unless_written : (status : Status) (P : Type 0) → UnlessWritten status ⊥ → UnlessWritten status P
 unless_written Done P h = tt
 unless_written (Usage kind) P h = absurd h
@@ -101,7 +101,7 @@ module _ {S : Type 0} (left : S → Told) (faults : S → ℕ) where
       (AllRead left faults (map content names) sources) (Opened (Ok names) sources (λ ns. AllRead left faults (map content ns) sources))
       (λ kind h. absurd h) (λ file h. absurd h) (λ rank at h. (names, refl, all, h)) (λ rank found h. (names, refl, all, h)) (λ h. (names, refl, all, h)) (λ h. (names, refl, all, h)) status now
 
-  -- what the words ask for was written otherwise
+  -- the same order
   pub run_under : (order other : Result (List (List ℕ)) UsageKind) (content : List ℕ → Told) (sources : List S) (opening writing : Type 0) (status : Status) → order ≡ other → RunEnds left faults other content sources opening writing status → RunEnds left faults order content sources opening writing status
   run_under order other content sources opening writing status e ends = subst (λ o. RunEnds left faults o content sources opening writing status) (sym e) ends
 
@@ -115,7 +115,7 @@ module _ {S : Type 0} (left : S → Told) (faults : S → ℕ) where
       ap (map left) pushed ∙ map-append left old (source ∷ []) ∙ ap (λ w. w ++ left source ∷ []) before ∙ ap (λ x. map content (take k names) ++ x ∷ []) is
       ∙ sym (ap (map content) (taken_more names k name at) ∙ map-append content (take k names) (name ∷ []))
 
-  -- of sources of which nothing was read all is left
+  -- if nothing was read of a source, all of its content remains
   pub rests_unread : (contents : List Told) (sources : List S) (k : ℕ) → map left sources ≡ take k contents → AreRests left contents sources
   rests_unread contents sources k same r file source is at =
       let front : slice_get (take k contents) r ≡ Some (left source) = ap (λ (w : List Told). slice_get w r) (sym same) ∙ slice_get-map left sources r ∙ ap (option_map left) at in
@@ -129,7 +129,7 @@ module _ {S : Type 0} (left : S → Told) (faults : S → ℕ) where
         in_front (y ∷ ys) (suc i) zero x e = e
         in_front (y ∷ ys) (suc i) (suc j) x e = in_front ys i j x e
 
-  -- what the file of a source held
+  -- the content of a source's file
   content_of : (contents : List Told) (sources : List S) (rank : ℕ) (source : S) → length sources ≡ length contents → slice_get sources rank ≡ Some source → (file : Told) × (slice_get contents rank ≡ Some file)
   content_of contents sources rank source all at =
       let within : rank < length sources = slice_get_within sources rank source at in
@@ -138,7 +138,7 @@ module _ {S : Type 0} (left : S → Told) (faults : S → ℕ) where
         | inr (past, is) ↦ absurd (omega (arith, past, within, all))
       ]
 
-  -- where all files were read to their ends, nothing is left
+  -- where all files were read to their ends, nothing remains
   pub nothing_left_of : (names : List (List ℕ)) (content : List ℕ → Told) (sources : List S) → length sources ≡ length names → AllRead left faults (map content names) sources → (rank : ℕ) (source : S) → slice_get sources rank ≡ Some source → NothingLeft (left source)
   nothing_left_of names content sources all read rank source at =
       let file = content_of (map content names) sources rank source (all ∙ sym (length-map names content)) at in

@@ -1,4 +1,4 @@
--- Lines that were cut off the front of what was to come.
+-- Lines that were taken from the front of what was to come.
 use Rattle.std.proofs.Common.{◌≡◌, ℕ, ◌≤◌, List, [], ◌∷◌, ◌++◌, Some, None, length, map, refl, sym, ap, ◌∙◌, arith, append_assoc, inl, inr, ◌+◌, Option, IfSome}
 use Rattle.std.specs.Option.{option_map}
 use Rattle.std.specs.List.{AllByRecursion}
@@ -36,7 +36,7 @@ nothing_of [] later now e none = refl
 nothing_of (byte ∷ front) later None e none = absurd cc
 nothing_of (byte ∷ front) later (Some rest) e none = absurd (let f : rest ≡ byte ∷ (front ++ later) = cc in cc)
 
--- a line that was cut off is the first
+-- a line that was taken is the first
 pub line_cut : (raw : List ℕ) (before now : Told) → LacksLf raw → CutOff raw before now → LinesTaken (raw ∷ []) before now
 line_cut raw before now h (inl e) = record {
   bytes = raw ++ 10 ∷ [];
@@ -63,8 +63,8 @@ pub text_cut : (raw : List ℕ) (before now : Told) → LinesTaken (raw ∷ []) 
 text_cut raw before None t = ap (option_map lines_of) t.taken
 text_cut raw before (Some rest) t = ap (option_map lines_of) t.taken ∙ ap (λ raws. Some (map text_of raws)) (t.lines rest [] (ap Some (sym (append-nil rest))))
 
--- Short lines were given, and with a part of the next that is short too nothing bad was read, a piece behind it aside; no
--- more lines end there than were given.
+-- Lines were taken that aren't too long, and a part of the next is held that isn't either. So what was read before the
+-- last piece has no bad line, and no more line ends than lines were taken.
 pub front_read : (raws : List (List ℕ)) (part piece held : List ℕ) (before now : Told) → held ≡ part ++ piece → LacksLf part → length part ≤ max_line → AllByRecursion (λ raw. length raw ≤ max_line) raws
     → LinesTaken raws before (to_come held now) → (front : List ℕ) × TakenFrom (front ++ piece) before now × (first_too_long (raw_lines front) ≡ None) × (ended_lines front ≤ length raws)
 front_read raws part piece held before None is h fits short t = ([], t.taken, refl, omega arith)
@@ -80,12 +80,12 @@ front_read raws part piece held before (Some rest) is h fits short t =
       omega (arith, ended_lines-append t.bytes part, ended_lines-none part h, ended_are_lines t.bytes, ap length given),
     )
 
--- what is to come at first is all that is left
+-- what is to come at first is what remains in the source
 pub from_start : (raws : List (List ℕ)) (before now : Told) → LinesTaken raws (to_come [] before) now → LinesTaken raws before now
 from_start raws None now taken = taken
 from_start raws (Some bytes) now taken = taken
 
--- where nothing more is to come, all lines of the bytes were given
+-- where nothing more is to come, all lines of the bytes were taken
 pub all_given : (raws : List (List ℕ)) (held : List ℕ) (before now : Told) → LinesTaken raws before (to_come held now) → held ≡ [] → NothingLeft now → IfSome before (λ bytes. raw_lines bytes ≡ raws)
 all_given raws held None now taken none left = tt
 all_given raws held (Some bytes) None taken none left = absurd (let e = taken.taken in cc)

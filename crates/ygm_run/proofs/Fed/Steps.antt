@@ -33,7 +33,7 @@ cond_none : (b : Bool) (x : List (List ℕ)) → cond b (x ++ []) x ≡ x
 cond_none true x = append-nil x
 cond_none false x = refl
 
--- nothing was given, and what is to come stands
+-- nothing was given, and what is to come is unchanged
 pub fed_nothing : (n rank : ℕ) (comms : List (Rank Counts)) (links : Plain) (reader now : Reading) (left0 left1 : Told) → to_come now.held left1 ≡ to_come reader.held left0 → now.given ≡ reader.given → Fed n rank comms comms links links reader now left0 left1
 fed_nothing n rank comms links reader now left0 left1 same given = record {
   raws = [];

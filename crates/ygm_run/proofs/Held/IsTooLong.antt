@@ -6,7 +6,7 @@ use Rattle.ygm_run.specs.Limits.{max_line}
 use Rattle.ygm_run.specs.Lines.{LacksLf, StartsTooLong}
 use Rattle.ygm_run.proofs.Lines.RawLines.{starts_too_long}
 
--- the carry and what stands before the first LF are too long
+-- the carry, followed by what comes before the first LF, is too long
 pub joined_too_long : (carry piece : List ℕ) (n : ℕ) → LacksLf carry → LacksLf (take n piece) → n ≤ length piece → max_line < length carry + n → (rest : List ℕ) → StartsTooLong ((carry ++ piece) ++ rest)
 joined_too_long carry piece n c f within long rest =
     let front = take n piece in

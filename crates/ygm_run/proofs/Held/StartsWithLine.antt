@@ -14,7 +14,7 @@ pub LacksLf-front : (found : Option ℕ) (piece : List ℕ) (count : ℕ) → If
 LacksLf-front None piece count some none = All-take (λ b. b ≢ 10) count piece none
 LacksLf-front (Some end) piece count some none = some
 
--- a piece with an LF makes the line whole that the carry began
+-- a piece with an LF completes the line that the carry began
 pub joined_line : (carry front rest text : List ℕ) → LacksLf carry → LacksLf front → length carry + length front ≤ max_line → text ≡ text_of (carry ++ front) → StartsWithLine (carry ++ (front ++ 10 ∷ rest)) text rest
 joined_line carry front rest text c f short is = record {
   raw = carry ++ front;
@@ -24,7 +24,7 @@ joined_line carry front rest text c f short is = record {
   text_is = is;
 }
 
--- a line that stands whole in the buffer, with nothing in the carry
+-- a whole line in the buffer, with nothing in the carry
 pub buffered_line : (carry buffer text : List ℕ) (start end n : ℕ) → carry ≡ [] → let buffered = slice_range buffer start end in n < length buffered → end ≤ max_line → LacksLf (take n buffered) → buffered ≡ take n buffered ++ 10 ∷ drop (n + 1) buffered → text ≡ text_of (take n buffered) → StartsWithLine (carry ++ buffered) text (carry ++ slice_range buffer (start + (n + 1)) end)
 buffered_line carry buffer text start end n none within bound partial parts is =
     let buffered = slice_range buffer start end in
@@ -37,7 +37,7 @@ buffered_line carry buffer text start end n none within bound partial parts is =
       text_is = is;
     }
 
--- the same with the bytes written otherwise
+-- of equal bytes
 pub same_line : (bytes bytes' text held held' : List ℕ) → bytes ≡ bytes' → held ≡ held' → StartsWithLine bytes' text held' → StartsWithLine bytes text held
 same_line bytes bytes' text held held' b h line = record {
   raw = line.raw;
@@ -51,11 +51,11 @@ pub front_within : (found : Option ℕ) (count most : ℕ) → count ≤ most �
 front_within None count most h some = h
 front_within (Some end) count most h some = omega arith
 
--- the carry is empty where bytes wait
+-- the carry is empty while the buffer has bytes
 pub no_carry : (carried start end : ℕ) → (0 < carried → start ≡ end) → start < end → carried ≡ 0
 no_carry zero start end h waits = refl
 no_carry (suc carried) start end h waits = absurd (let same : start ≡ end = h (omega arith) in omega arith)
 
--- a line's text has no more bytes than a line may have
+-- a line's text isn't too long
 pub text_is_short : (bytes text held : List ℕ) → StartsWithLine bytes text held → length text ≤ max_line
 text_is_short bytes text held line = omega (arith, ap length line.text_is, length-text_of line.raw, line.short)

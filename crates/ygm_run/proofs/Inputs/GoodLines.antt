@@ -1,4 +1,4 @@
--- The lines before the first that has more bytes than a line may have.
+-- The lines before the first that is too long.
 use Rattle.std.proofs.Common.{◌≡◌, ℕ, ◌+◌, ◌<◌, ◌≤◌, cond, List, [], ◌∷◌, ◌++◌, Some, None, Option, length, refl, ap, sym, ◌∙◌, subst, arith, inl, inr}
 use Rattle.std.specs.Option.{option_map}
 use Rattle.std.specs.List.{AllByRecursion}
@@ -8,7 +8,7 @@ use Rattle.ygm_run.specs.Limits.{max_line}
 use Rattle.ygm_run.specs.Lines.{first_too_long, AreShort, IsFirstTooLong}
 use Rattle.ygm_run.proofs.Lines.FirstTooLong.{short_of}
 
--- short lines stand before any that is too long
+-- short lines come before any that is too long
 pub good_before : (raws later : List (List ℕ)) → AllByRecursion (λ raw. length raw ≤ max_line) raws → length raws ≤ length (good_lines (raws ++ later))
 good_before [] later short = omega arith
 good_before (r ∷ raws) later short =
@@ -46,7 +46,7 @@ good_below (raw ∷ raws) number e =
           (good_next raw (good_lines raws) (first_too_long raws) number (good_below raws) (sym (ap (λ b. cond b (Some 1) later) (le-ltb max_line (length raw) short)) ∙ e))
     ]
 
--- the good lines are those before the first that has too many bytes
+-- the good lines are those before the first that is too long
 good_front : (before : List (List ℕ)) (line : List ℕ) (later : List (List ℕ)) → AllByRecursion (λ raw. length raw ≤ max_line) before → max_line < length line → good_lines (before ++ line ∷ later) ≡ before
 good_front [] line later short long = ap (λ b. cond b [] (line ∷ good_lines later)) (lt-ltb max_line (length line) long)
 good_front (raw ∷ before) line later short long =
@@ -60,6 +60,6 @@ all_good : (raws : List (List ℕ)) → AllByRecursion (λ raw. length raw ≤ m
 all_good [] short = refl
 all_good (raw ∷ raws) short = ap (λ b. cond b [] (raw ∷ good_lines raws)) (le-ltb max_line (length raw) short.0) ∙ ap (λ w. raw ∷ w) (all_good raws short.1)
 
--- all lines are good where none has too many bytes
+-- all lines are good if none is too long
 pub good_of_short : (raws : List (List ℕ)) → AreShort raws → good_lines raws ≡ raws
 good_of_short raws short = all_good raws (short_of raws short)

@@ -1,4 +1,4 @@
--- Where a rank's count is full, its file has more good lines than a rank sends letters.
+-- Where a rank's count is full, its file has more good lines than a rank may send letters.
 use Rattle.std.proofs.Common.{ℕ, ◌<◌, ◌≤◌, List, [], ◌∷◌, ◌++◌, Some, None, IfSome, length, ap, arith, length-append}
 use Rattle.std.specs.List.{AllByRecursion}
 use Rattle.list_facts.proofs.Elements.{all_append}
@@ -13,7 +13,7 @@ use Rattle.ygm_run.specs.Lines.{raw_lines}
 use Rattle.ygm_run.proofs.Fed.LinesTaken.{line_cut, lines_more, whole_lines}
 use Rattle.ygm_run.proofs.Inputs.GoodLines.{good_before}
 
--- lines were given, and one more is to come: as many and one stand before any that is too long
+-- lines were taken, and one more is to come: so many and one come before any that is too long
 pub many_good : (raws : List (List ℕ)) (before now : Told) → AllByRecursion (λ raw. length raw ≤ max_line) raws → LinesTaken raws before now → HasLine now → IfSome before (λ bytes. length raws < length (good_lines (raw_lines bytes)))
 many_good raws before now short taken (text, rest, line) = of before rest (lines_more raws (line.raw ∷ []) before now rest taken (line_cut line.raw now rest line.partial line.cut)) where
   of : (all rest : Told) → LinesTaken (raws ++ line.raw ∷ []) all rest → IfSome all (λ bytes. length raws < length (good_lines (raw_lines bytes)))
@@ -23,7 +23,7 @@ many_good raws before now short taken (text, rest, line) = of before rest (lines
       let good = good_before (raws ++ line.raw ∷ []) (raw_lines later) (all_append (λ raw. length raw ≤ max_line) raws (line.raw ∷ []) short (line.short, tt)) in
       omega (arith, good, length-append raws (line.raw ∷ []), ap (λ w. length (good_lines w)) (whole_lines (raws ++ line.raw ∷ []) bytes later taken_all))
 
--- a fact of the limit that a full count gave, made of another
+-- of the limit of a full count, one fact from another
 pub full_so : (P Q : ℕ → Type 0) (fault : CommFault) → ((limit : ℕ) → P limit → Q limit) → IfCountFull fault P → IfCountFull fault Q
 full_so P Q (CountFull at) f p = f at p
 full_so P Q Stopped f p = tt

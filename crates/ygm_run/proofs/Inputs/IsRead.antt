@@ -17,7 +17,7 @@ use Rattle.ygm_run.proofs.Fed.LinesTaken.{all_given, front_read, too_long_given}
 use Rattle.ygm_run.proofs.Inputs.GoodLines.{few_good, good_below}
 use Rattle.ygm_run.proofs.Lines.FirstTooLong.{none_too_long_of}
 
--- a reader that isn't done says nothing of how it ended
+-- of a reader that isn't done, everything holds of how it ended
 pub not_ended : (fault : Option InputFault) (reader : Reading) (left : Told) (faults faults_now : ℕ) → reader.done ≡ false → reader.done ≡ true → EndedWith fault reader left faults faults_now
 not_ended fault reader left faults faults_now going done = absurd (false≢true (sym going ∙ done))
 

@@ -4,7 +4,6 @@ use Rattle.ygm_io.specs.Content.{Told}
 use Rattle.ygm_run.specs.Inputs.{IsRest}
 use Rattle.ygm_run.proofs.Turns.ToCome.{taken_more, taken_none}
 
--- a rest of a rest is a rest
 pub rest_none : (left : Told) → IsRest left left
 rest_none left = ([], taken_none left)
 

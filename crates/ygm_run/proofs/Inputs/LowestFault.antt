@@ -1,10 +1,10 @@
--- The fault of the lowest of the first ranks that has one.
+-- Of the first ranks, the lowest that has a fault.
 use Rattle.std.proofs.Common.{◌≡◌, ℕ, ◌+◌, ◌<◌, cond, eqb, Some, None, Option, refl, sym, ap, ◌∙◌, subst, inl, inr, arith}
 use Rattle.std.specs.Option.{option_map}
 use Rattle.std.proofs.lemmas.Bool.{cases_eq, eq-eqb, ne_eqb}
 use Rattle.ygm_run.specs.declared.status.InputFault.{InputFault}
 
--- this is the fault of the lowest of the first ranks that has one, with its rank
+-- of the first ranks, the lowest that has a fault, with that fault
 abbrev pub LowestBelow : (ℕ → Option InputFault) → ℕ → Option (ℕ × InputFault) → Type 0
 LowestBelow fault k None = (r : ℕ) → r < k → fault r ≡ None
 LowestBelow fault k (Some found) = (found.0 < k) × (fault found.0 ≡ Some found.1) × ((r : ℕ) → r < found.0 → fault r ≡ None)

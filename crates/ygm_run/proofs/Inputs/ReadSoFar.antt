@@ -20,7 +20,7 @@ use Rattle.ygm_run.proofs.Fed.Steps.{same_own}
 use Rattle.ygm_run.proofs.Inputs.IsRest.{rest_none}
 use Rattle.ygm_run.proofs.Inputs.LowestFault.{LowestBelow, at_other, at_same, lowest_more, with_fault}
 
--- The files of the first ranks were read, and the lines before each fault are on their way; the other files are as they were.
+-- The files of the first ranks were read, and the lines before each fault are on their way. The others are unchanged.
 pub record ReadSoFar {S : Type 0} (left : S → Told) (faults : S → ℕ) (n : ℕ) (start sources : List S) (k : ℕ) (comms : List (Rank Counts)) (links : Plain) (lowest : Option (ℕ × InputFault)) : Type 0 where
   pub own : ℕ → List (List ℕ)
   pub fault : ℕ → Option InputFault
@@ -38,7 +38,7 @@ with_same own rank other lines e = ap (λ b. cond b (own other ++ lines) (own ot
 with_other : (own : ℕ → List (List ℕ)) (rank other : ℕ) (lines : List (List ℕ)) → (other ≡ rank → ⊥) → with_lines own rank lines other ≡ own other
 with_other own rank other lines ne = ap (λ b. cond b (own other ++ lines) (own other)) (ne_eqb other rank ne)
 
--- what was left of a source at the start
+-- at the start all of a source's content remains
 start_at : {X : Type 0} (left : X → Told) (start : List X) (r : ℕ) (content : Told) (source : X) → slice_get (map left start) r ≡ Some content → slice_get start r ≡ Some source → IsRest content (left source)
 start_at left start r content source is at = subst (λ t. IsRest t (left source)) (field_at left start r source content at is) (rest_none (left source))
 
@@ -112,7 +112,7 @@ all_read left faults n start sources k comms links all end so r content source i
     let lt : r < k = omega (arith, within, all, end) in
     subst (IsRead left faults content source) (so.lowest_is r lt) (so.read r content source lt is at)
 
--- the bytes that a source of the list tells
+-- the bytes that a source of the list exposes
 exposed_at : (lefts : List Told) (bytes : List (List ℕ)) (r : ℕ) → AreExposed lefts bytes → r < length bytes → (b : List ℕ) × (slice_get bytes r ≡ Some b) × (slice_get lefts r ≡ Some (Some b))
 exposed_at lefts bytes r exposed lt = elim (slice_get_cases bytes r).1 [
   | inl (b, within, is, at) ↦ (b, is, ap (λ (w : List Told). slice_get w r) exposed ∙ slice_get-map Some bytes r ∙ ap (option_map Some) is)
@@ -135,7 +135,7 @@ all_sent left faults n start sources k comms links all end within so bytes expos
     ])
     so.carried
 
--- the lowest fault is told
+-- the lowest fault is reported
 pub lowest_reported : {S : Type 0} (left : S → Told) (faults : S → ℕ) (n : ℕ) (start sources : List S) (k : ℕ) (comms : List (Rank Counts)) (links : Plain) (found : ℕ × InputFault) → length sources ≡ n → n ≤ k → k ≤ n → ReadSoFar left faults n start sources k comms links (Some found)
     → IsLowestFault left faults (map left start) sources found.0 found.1
 lowest_reported left faults n start sources k comms links found all end within so = record {

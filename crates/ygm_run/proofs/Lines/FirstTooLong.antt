@@ -1,4 +1,4 @@
--- The first line that has more bytes than a line may have.
+-- The first line that is too long.
 use Rattle.std.proofs.Common.{◌≡◌, ℕ, ◌+◌, ◌<◌, ◌≤◌, cond, List, [], ◌∷◌, ◌++◌, Some, None, Option, length, refl, ap, sym, ◌∙◌, arith, inl, inr}
 use Rattle.std.specs.Option.{option_map}
 use Rattle.std.specs.List.{AllByRecursion}
@@ -14,7 +14,7 @@ none_too_long_of (r ∷ raws) short =
     ap (λ b. cond b (Some 1) (option_map (λ number. number + 1) (first_too_long raws))) (le-ltb max_line (length r) short.0)
     ∙ ap (option_map (λ number. number + 1)) (none_too_long_of raws short.1)
 
--- behind short lines, the first that is too long has the next number
+-- after short lines, the first that is too long has the next number
 pub later_too_long : (raws later : List (List ℕ)) → AllByRecursion (λ raw. length raw ≤ max_line) raws → first_too_long later ≡ Some 1 → first_too_long (raws ++ later) ≡ Some (length raws + 1)
 later_too_long [] later short long = long
 later_too_long (r ∷ raws) later short long =
@@ -25,15 +25,15 @@ later_too_long (r ∷ raws) later short long =
 pub short_of : (raws : List (List ℕ)) → AreShort raws → AllByRecursion (λ raw. length raw ≤ max_line) raws
 short_of raws short = recursion_from_All (λ raw. length raw ≤ max_line) raws short
 
--- a line that has too many bytes is the first of its list
+-- a line that is too long, at the front
 at_long : (raw : List ℕ) (raws : List (List ℕ)) → max_line < length raw → first_too_long (raw ∷ raws) ≡ Some 1
 at_long raw raws long = ap (λ b. cond b (Some 1) (option_map (λ number. number + 1) (first_too_long raws))) (lt-ltb max_line (length raw) long)
 
--- behind a short line, each number is one more
+-- after a short line, each number is one more
 behind_short : (raw : List ℕ) (raws : List (List ℕ)) → length raw ≤ max_line → first_too_long (raw ∷ raws) ≡ option_map (λ number. number + 1) (first_too_long raws)
 behind_short raw raws short = ap (λ b. cond b (Some 1) (option_map (λ number. number + 1) (first_too_long raws))) (le-ltb max_line (length raw) short)
 
--- a short line goes before
+-- a short line put before
 one_before : (raw : List ℕ) (raws : List (List ℕ)) (found : Option ℕ) (number : ℕ) → length raw ≤ max_line → ((n : ℕ) → found ≡ Some n → IsFirstTooLong raws n) → option_map (λ number. number + 1) found ≡ Some number
     → IsFirstTooLong (raw ∷ raws) number
 one_before raw raws None number short first e = absurd cc
@@ -50,7 +50,7 @@ one_before raw raws (Some n) number short first e =
       number_is = omega (arith, is, rest.number_is);
     }
 
--- the number that is told is that of the first
+-- the number is that of the first
 pub first_of_number : (raws : List (List ℕ)) (number : ℕ) → first_too_long raws ≡ Some number → IsFirstTooLong raws number
 first_of_number [] number e = absurd cc
 first_of_number (raw ∷ raws) number e = elim (cases_lt max_line (length raw)) [

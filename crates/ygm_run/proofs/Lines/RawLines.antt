@@ -1,4 +1,4 @@
--- Where the raw lines of bytes are cut.
+-- The raw lines of bytes, and how many of them end.
 use Rattle.std.proofs.Common.{subst, sym, ◌≡◌, ◌≢◌, ◌+◌, ◌<◌, ◌≤◌, ℕ, eqb, List, [], ◌∷◌, ◌++◌, length, Bool, true, false, cond, Some, refl, ap, ◌∙◌, arith, ⊎_elim}
 use Rattle.std.proofs.lemmas.List.Elements.{All-head, All-tail}
 use Rattle.std.proofs.lemmas.List.Sums.{sum_by-append, sum_by-cons}
@@ -12,11 +12,11 @@ use Rattle.ygm_run.specs.Lines.{raw_lines, onto_first, ended_lines, LacksLf, Sta
 not_lf : (byte : ℕ) → byte ≢ 10 → eqb byte 10 ≡ false
 not_lf byte h = ⊎_elim (λ t. absurd (h t.1)) (λ f. f.0) (eqb_tells byte 10)
 
--- a byte that is no LF goes onto the first line of the rest
+-- a byte that isn't LF goes onto the first line of what follows
 raw_lines-cons : (byte : ℕ) (bytes : List ℕ) → byte ≢ 10 → raw_lines (byte ∷ bytes) ≡ onto_first byte (raw_lines bytes)
 raw_lines-cons byte bytes h = ap (λ b. cond b ([] ∷ raw_lines bytes) (onto_first byte (raw_lines bytes))) (not_lf byte h)
 
--- what stands before the first LF is the first line
+-- what comes before the first LF is the first line
 pub raw_lines-at_lf : (raw rest : List ℕ) → LacksLf raw → raw_lines (raw ++ 10 ∷ rest) ≡ raw ∷ raw_lines rest
 raw_lines-at_lf [] rest h = refl
 raw_lines-at_lf (byte ∷ raw) rest h =
@@ -41,7 +41,7 @@ unfolding first_len
 first_len-onto byte [] = refl
 first_len-onto byte (line ∷ lines) = omega arith
 
--- the first line has at least the bytes that stand before each LF
+-- the first line has at least the bytes before the first LF
 first_len-front : (raw rest : List ℕ) → LacksLf raw → length raw ≤ first_len (raw_lines (raw ++ rest))
 first_len-front [] rest h = omega arith
 first_len-front (byte ∷ raw) rest h =
@@ -69,7 +69,7 @@ ended_lines-cons : (byte : ℕ) (bytes : List ℕ) → ended_lines (byte ∷ byt
 unfolding one_at_lf
 ended_lines-cons byte bytes = sum_by-cons (λ b. cond (eqb b 10) 1 0) byte bytes
 
--- in bytes with no LF no line ends
+-- bytes without LF end no line
 pub ended_lines-none : (bytes : List ℕ) → LacksLf bytes → ended_lines bytes ≡ 0
 unfolding one_at_lf
 ended_lines-none [] h = refl
@@ -96,7 +96,7 @@ ended_are_lines (byte ∷ bytes) =
       by_test true rest = omega (arith, rest)
       by_test false rest = omega (arith, rest, lines_onto_first byte (raw_lines bytes))
 
--- a short part of a line is no long line
+-- of a part of a line that isn't too long, no line is
 pub part_short : (part : List ℕ) → LacksLf part → length part ≤ max_line → AllByRecursion (λ raw. length raw ≤ max_line) (raw_lines part)
 part_short [] h short = tt
 part_short (byte ∷ part) h short = subst (AllByRecursion (λ raw. length raw ≤ max_line)) (sym (raw_lines-at_end (byte ∷ part) h (omega arith))) (short, tt)

@@ -10,13 +10,13 @@ put_before : (x last : ℕ) (b : Bool) (xs : List ℕ) → x ∷ cond b xs (xs +
 put_before x last true xs = refl
 put_before x last false xs = refl
 
--- a CR at the end is dropped, and any other byte stays
+-- a CR at the end is dropped, and any other byte is kept
 pub text_of-push : (xs : List ℕ) (last : ℕ) → text_of (xs ++ last ∷ []) ≡ cond (eqb last 13) xs (xs ++ last ∷ [])
 text_of-push [] last = refl
 text_of-push (x ∷ []) last = put_before x last (eqb last 13) []
 text_of-push (x ∷ y ∷ ys) last = ap (λ t. x ∷ t) (text_of-push (y ∷ ys) last) ∙ put_before x last (eqb last 13) (y ∷ ys)
 
--- a line, and its last byte apart
+-- a line is all but its last byte, and that byte
 last_apart : (line : List ℕ) → 0 < length line → line ≡ take (length line - 1) line ++ get_or line (length line - 1) 0 ∷ []
 last_apart line h =
     let n : length line - 1 < length line = omega arith in

@@ -11,7 +11,7 @@ use Rattle.std.proofs.lemmas.Map.Views.{All-insert_key}
 use Rattle.ygm_run.specs.TallyText.{byte_order, IsBefore, distinct_items}
 use Rattle.list_facts.proofs.Members.{Contains-here, Contains-there, Contains-cons_cases, Contains-nil}
 
--- each item stands before those after it
+-- each item is before those after it
 abbrev pub Rises : List (List ℕ) → Type 0
 Rises items = IsStrictlySortedBy byte_order items
 
@@ -21,7 +21,7 @@ rises_from_pairs items h = sorted_from_all_adjacent nat_list_cmp_total items [] 
 pub pairs_from_rises : (items : List (List ℕ)) → Rises items → AllPairs IsBefore items
 pairs_from_rises items h i j d less within = Less-from_sorted byte_order items i j d h less within
 
--- the first item stands before each other
+-- the first item is before each other one
 first_is_before : (x y : List ℕ) (xs : List (List ℕ)) → Rises (x ∷ xs) → Contains xs y → IsBefore x y
 first_is_before x y xs h among = All-contains (IsBefore x) xs y (All-from_recursion (IsBefore x) xs (sorted_head byte_order x xs h)) among
 
@@ -34,7 +34,7 @@ turned x y h = nat_list_cmp_total.antisymm y x ∙ ap ordering_reverse h
 not_both : (x y : List ℕ) → IsBefore x y → IsBefore y x → ⊥
 not_both x y h back = let same = nat_list_cmp_total.antisymm x y ∙ ap ordering_reverse back in cc
 
--- an item before the first stands nowhere
+-- an item that is before the first isn't in the list
 not_among : (x y : List ℕ) (ys : List (List ℕ)) → Rises (y ∷ ys) → IsBefore x y → Contains (y ∷ ys) x → ⊥
 not_among x y ys h less among =
     ⊎_elim
@@ -42,7 +42,7 @@ not_among x y ys h less among =
     (λ later. not_both x y less (first_is_before y x ys h later))
     (Contains-cons_cases y x ys among)
 
--- an item after the first stands among the others
+-- an item that is after the first is among the others
 among_others : (x q : List ℕ) (xs : List (List ℕ)) → IsBefore x q → Contains (x ∷ xs) q → Contains xs q
 among_others x q xs less among = ⊎_elim (λ is. absurd (not_before_itself x q is less)) (λ later. later) (Contains-cons_cases x q xs among)
 
@@ -51,7 +51,7 @@ same_first x y xs ys s t there back Less h = absurd (not_among x y ys t h there)
 same_first x y xs ys s t there back Equal h = exact_bytes x y h
 same_first x y xs ys s t there back Greater h = absurd (not_among y x xs s (turned x y h) back)
 
--- two rising lists with the same items are one
+-- two rising lists with the same items are equal
 pub same_items : (xs ys : List (List ℕ)) → Rises xs → Rises ys → ((q : List ℕ) → Contains xs q → Contains ys q) → ((q : List ℕ) → Contains ys q → Contains xs q) → xs ≡ ys
 same_items [] [] s t there back = refl
 same_items [] (y ∷ ys) s t there back = absurd (Contains-nil y (back y (Contains-here y ys)))
@@ -80,7 +80,7 @@ unfolding IsStrictlySortedBy
 Rises-insert_key x [] h = (tt, tt)
 Rises-insert_key x (y ∷ ys) h = rises_at x y ys h (Rises-insert_key x ys) (byte_order x y) refl
 
--- what stands in a list with x put in: x, and what stood there
+-- the list after has x and what the list before had
 abbrev Joins : List ℕ → List (List ℕ) → List (List ℕ) → Type 0
 Joins x before after = (q : List ℕ) → Contains after q ↔ ((x ≡ q) ⊎ Contains before q)
 

@@ -5,7 +5,7 @@ use Rattle.ygm_run.proofs.TallyText.Times.{Contains-from_times}
 use Rattle.list_facts.proofs.Members.{AllPairs-append, Contains-joined, from_joined}
 use Rattle.ygm_run.proofs.TallyText.Table.{Pair}
 
--- in each shard no item stands twice, and just the items that it owns stand there with their counts
+-- each shard has exactly the items that it owns, each once and with its count
 pub record AreShards (owner : List ℕ → ℕ) (shards : List (List Pair)) (lines : List (List ℕ)) : Type 0 where
   pub once : (d : ℕ) → d < length shards → AllPairs (λ pair later. pair.0 ≢ later.0) (get_or shards d [])
   pub exact : (d : ℕ) → d < length shards → (item : List ℕ) (count : ℕ) → Contains (get_or shards d []) (item, count) ↔ ((owner item ≡ d) × (count ≡ times item lines) × (0 < count))

@@ -1,4 +1,4 @@
--- How often an item stands among lines.
+-- How often an item is among lines.
 use Rattle.std.proofs.Common.{◌≡◌, ℕ, ◌+◌, ◌<◌, ◌⊎◌, List, [], ◌∷◌, ◌++◌, Contains, IsPermutation, bytes_eq, cond, Bool, true, false, inl, inr, refl, sym, ap, ◌∙◌, subst, arith, ⊎_elim, sum_by}
 use Rattle.std.proofs.lemmas.List.Sums.{sum_by-append, sum_by-cons}
 use Rattle.std.proofs.lemmas.List.Sorted.{sum_by-IsPermutation}
@@ -29,7 +29,7 @@ at_line : (item line : List ℕ) (same : Bool) → bytes_eq item line ≡ same �
 at_line item line true h = inl (sym ((bytes_eq-Decides item line).0 h))
 at_line item line false h = inr (ap (λ b. cond b 1 0) h)
 
--- an item that is counted stands there
+-- an item that is counted is there
 pub Contains-from_times : (item : List ℕ) (lines : List (List ℕ)) → 0 < times item lines → Contains lines item
 Contains-from_times item [] h = absurd (omega arith)
 Contains-from_times item (line ∷ lines) h =
@@ -38,7 +38,7 @@ Contains-from_times item (line ∷ lines) h =
     (λ none. Contains-there line item lines (Contains-from_times item lines (omega (arith, times-cons item line lines, none))))
     (at_line item line (bytes_eq item line) refl)
 
--- an item that stands there is counted
+-- an item that is there is counted
 pub times_from_Contains : (item : List ℕ) (lines : List (List ℕ)) → Contains lines item → 0 < times item lines
 times_from_Contains item [] h = absurd (Contains-nil item h)
 times_from_Contains item (line ∷ lines) h =

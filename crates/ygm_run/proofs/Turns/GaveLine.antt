@@ -1,4 +1,4 @@
--- A line was given: one that was held whole, one that a read made whole, or the last.
+-- A line was returned: one that was held whole, one that a read made whole, or the last.
 use Rattle.std.proofs.Common.{◌≡◌, ◌≤◌, ℕ, List, [], ◌∷◌, ◌++◌, length, Some, None, Ok, refl, ap, subst, ◌∙◌, sym, inl, inr}
 use Rattle.std.proofs.lemmas.List.{append_assoc}
 use Rattle.std.specs.Option.{option_map}
@@ -20,7 +20,7 @@ cut_at_lf bytes text held (Some rest) line =
     ap (λ w. Some (w ++ rest)) line.whole
     ∙ ap Some (append_assoc line.raw (10 ∷ held) rest ∙ sym (append_assoc line.raw (10 ∷ []) (held ++ rest)))
 
--- a line that stood whole in what was held
+-- a line that was held whole
 pub line_taken : (bytes text held : List ℕ) (left : Told) → StartsWithLine bytes text held → RawLineTaken text (to_come bytes left) (to_come held left)
 line_taken bytes text held left line = record {
   raw = line.raw;
@@ -56,7 +56,7 @@ texts_taken text bytes held before now line =
     ∙ ap (option_map (λ lines. text_of line.raw ∷ lines)) (sym (lines_from_to_come held now))
     ∙ ap (λ t. option_map (λ lines. t ∷ lines) (lines_to_come held now)) (sym line.text_is)
 
--- the line was handed out, from bytes that are held
+-- the line was returned
 pub gave_line : {S : Type 0} (left : S → Told) (got : Got) (text bytes held : List ℕ) (old new : Reading) (before now : S) → got ≡ Line text → old.held ≡ bytes → new.held ≡ held
     → new.given ≡ next_count old.given → length held ≤ max_piece → RawLineTaken text (to_come bytes (left before)) (to_come held (left now)) → IfLine (Ok got) (λ line. GaveLine left line old new before now)
 gave_line left got text bytes held old new before now is was held_is counted bound taken =

@@ -1,4 +1,4 @@
--- What is to come, and what is gone from its front.
+-- What is to come, and what was taken from its front.
 use Rattle.std.proofs.Common.{◌≡◌, ℕ, List, [], ◌++◌, Some, None, refl, sym, ap, ◌∙◌, subst, append_assoc, IfSome}
 use Rattle.std.specs.Option.{option_map}
 use Rattle.std.proofs.lemmas.List.{append_assoc}
@@ -14,7 +14,7 @@ pub taken_more : (f g : List ℕ) (a b c : Told) → TakenFrom f a b → TakenFr
 taken_more f g a b None p q = p ∙ ap (option_map (λ rest. f ++ rest)) q
 taken_more f g a b (Some c) p q = p ∙ ap (option_map (λ rest. f ++ rest)) q ∙ ap Some (sym (append_assoc f g c))
 
--- what was read is held
+-- what was read is held, and what is to come is unchanged
 pub to_come-read : (held piece : List ℕ) (before now : Told) → TakenFrom piece before now → to_come (held ++ piece) now ≡ to_come held before
 to_come-read held piece before None e = sym (ap (to_come held) e)
 to_come-read held piece before (Some rest) e = ap Some (append_assoc held piece rest) ∙ sym (ap (to_come held) e)
