@@ -1,4 +1,4 @@
--- The lines of each rank on their way to the ranks that own them.
+-- Only private functions cite this: the lines of each rank on their way to the ranks that own them.
 use Rattle.std.specs.Prelude.{◌≡◌, ℕ, ◌+◌, ◌<◌, ◌≤◌, ◌^◌, ◌==◌, false, List, [], ◌∷◌, ◌++◌, Some, length, map, filter, flat_map, slice_get, slice_index, if◌then◌else◌}
 use Rattle.std.specs.List.{AllByRecursion}
 use Rattle.msg_codec.specs.declared.letter.Letter.{Letter}
@@ -19,8 +19,8 @@ letters_of ranks from to lines = map (add_letter to from) (filter (λ line. owne
 abbrev pub sent_counts : List (Rank Counts) → List ℕ
 sent_counts comms = map (λ (me : Rank Counts). me.sent_count) comms
 
--- all ranks of the links' world, each with its part of a counting set, which may go on and may send up to the limit;
--- none has raised the stop
+-- All ranks of the links' world, each with its part of a counting set. Each may go on and may send up to the limit, and
+-- none has raised the stop.
 pub record AreReady (comms : List (Rank Counts)) (links : Plain) : Type 0 where
   pub ranks : AreRanks counting_apply (λ _. []) comms links
   pub most : (rank : ℕ) (me : Rank Counts) → slice_get comms rank ≡ Some me → me.most ≡ 2 ^ 56
@@ -30,8 +30,8 @@ pub record AreReady (comms : List (Rank Counts)) (links : Plain) : Type 0 where
 abbrev pub AreFresh : Shape → List (Rank Counts) → Type 0
 AreFresh layout comms = (rank : ℕ) (me : Rank Counts) → slice_get comms rank ≡ Some me → me ≡ fresh_rank layout Direct rank (2 ^ 56) []
 
--- The lines that ranks gave so far, own, were sent: to each rank the letters of those that it owns, in order, and
--- no others.
+-- The lines that each rank has read so far (`own`) were sent: to each rank the letters of the lines that it owns, in
+-- order, and no others.
 pub record Carried (own : ℕ → List (List ℕ)) (ranks : ℕ) (comms : List (Rank Counts)) (links : Plain) : Type 0 where
   pub all : length comms ≡ ranks
   pub counted : (rank : ℕ) (me : Rank Counts) → slice_get comms rank ≡ Some me → me.sent_count ≡ length (own rank)
@@ -39,12 +39,11 @@ pub record Carried (own : ℕ → List (List ℕ)) (ranks : ℕ) (comms : List (
   pub short : (rank : ℕ) → AllByRecursion (λ line. length line ≤ 1000000) (own rank)
   pub few : (rank : ℕ) → length (own rank) ≤ 2 ^ 56
 
--- the same lines, and one more of a rank
+-- the same lines, and one more of one rank
 abbrev pub with_line : (ℕ → List (List ℕ)) → ℕ → List ℕ → ℕ → List (List ℕ)
 with_line own rank line other = if other == rank then own other ++ line ∷ [] else own other
 
--- A line of a rank was sent: its letter is behind those of the lines that ranks gave before, and its rank has sent one
--- letter more.
+-- A line of a rank was sent: its letter comes after those of the earlier lines, and its rank has sent one letter more.
 pub record LineSent (ranks rank : ℕ) (line : List ℕ) (before after : List (Rank Counts)) (old new : Plain) : Type 0 where
   pub ready : AreReady after new
   pub carried : (own : ℕ → List (List ℕ)) → Carried own ranks before old → Carried (with_line own rank line) ranks after new
@@ -60,8 +59,8 @@ IsQuietFrom comms links from = (to : ℕ) (sender me : Rank Counts) → slice_ge
 abbrev pub IsQuiet : List (Rank Counts) → Plain → Type 0
 IsQuiet comms links = (from : ℕ) → from < length comms → IsQuietFrom comms links from
 
--- What the weak barrier of a rank leaves: the same lines are on their way, all that the caller has sent has run, and
--- so has still what had all run before. No rank has sent more.
+-- What holds after the weak barrier of a rank: the same lines are on their way, and all that the caller has sent has run.
+-- A rank of which everything had run before stays so. No rank has sent more.
 pub record HasSettled (caller : ℕ) (before after : List (Rank Counts)) (old new : Plain) : Type 0 where
   pub ready : AreReady after new
   pub carried : (own : ℕ → List (List ℕ)) (ranks : ℕ) → Carried own ranks before old → Carried own ranks after new

@@ -1,19 +1,15 @@
 -- How a run ends, and why.
 use Rattle.std.specs.Prelude.{◌≡◌, ◌⊎◌, ℕ, ◌<◌, List, [], Result, Ok, Err, Some, length, map, slice_get, take, ⊤}
-use Rattle.ygm_io.specs.Content.{Told, AppendedTo}
+use Rattle.ygm_io.specs.Content.{ExposedBytes, AppendedTo}
 use Rattle.ygm_io.specs.Rising.{Rose}
-use Rattle.comm_rank.specs.declared.fault.CommFault.{CommFault}
-use Rattle.comm_rank.specs.declared.fault.CommFault.TheVariants.{CountFull as CommFull, NoMemory as CommNoMemory, Stopped as CommStopped}
 use Rattle.ygm_run.specs.declared.status.InputFault.{InputFault}
 use Rattle.ygm_run.specs.declared.status.InputFault.TheVariants.{Read, Bad}
 use Rattle.ygm_run.specs.declared.status.Status.{Status}
 use Rattle.ygm_run.specs.declared.status.Status.TheVariants.{Done, Usage, OpenFault, ReadFault, BadLine, WriteFault, NoMemory, CountFull}
-use Rattle.ygm_run.specs.declared.tally.JobFault.{JobFault}
-use Rattle.ygm_run.specs.declared.tally.JobFault.TheVariants.{Input as JobInput, CountFull as JobFull, NoMemory as JobNoMemory}
 use Rattle.ygm_run.specs.declared.words.UsageKind.{UsageKind}
 use Rattle.ygm_run.specs.Inputs.{AllRead, IsFullAtRank, IsLowestFault}
 
--- where all was done
+-- a fact where the run was complete
 abbrev pub OnDone : Status → Type 0 → Type 0
 OnDone Done P = P
 OnDone (Usage kind) P = ⊤
@@ -24,7 +20,7 @@ OnDone WriteFault P = ⊤
 OnDone NoMemory P = ⊤
 OnDone (CountFull rank at) P = ⊤
 
--- where the text couldn't be written
+-- a fact where the text couldn't be written
 abbrev pub OnWriteFault : Status → Type 0 → Type 0
 OnWriteFault Done P = ⊤
 OnWriteFault (Usage kind) P = ⊤
@@ -35,7 +31,7 @@ OnWriteFault WriteFault P = P
 OnWriteFault NoMemory P = ⊤
 OnWriteFault (CountFull rank at) P = ⊤
 
--- where nothing was to be written
+-- a fact where nothing was written
 abbrev pub UnlessWritten : Status → Type 0 → Type 0
 UnlessWritten Done P = ⊤
 UnlessWritten (Usage kind) P = P
@@ -46,7 +42,7 @@ UnlessWritten WriteFault P = ⊤
 UnlessWritten NoMemory P = P
 UnlessWritten (CountFull rank at) P = P
 
--- where the status says that no open failed: it is neither that of a file nor want of memory
+-- a fact where the status says that no open failed: it names no file, and isn't lack of memory
 abbrev pub UnlessUnopened : Status → Type 0 → Type 0
 UnlessUnopened Done P = P
 UnlessUnopened (Usage kind) P = P
@@ -57,17 +53,17 @@ UnlessUnopened WriteFault P = P
 UnlessUnopened NoMemory P = ⊤
 UnlessUnopened (CountFull rank at) P = P
 
--- the front of a text was put behind what was held
-abbrev pub FrontAppended : List ℕ → Told → Told → Type 0
+-- a prefix of a text was appended to what was held
+abbrev pub FrontAppended : List ℕ → ExposedBytes → ExposedBytes → Type 0
 FrontAppended text before now = (count : ℕ) × AppendedTo (take count text) before now
 
--- a text was put behind what was held: the whole of it, or its front where a write failed
-abbrev pub IsNoted : List ℕ → Told → Told → ℕ → ℕ → Type 0
+-- a text was appended to what was held: all of it, or a prefix of it where a write failed
+abbrev pub IsNoted : List ℕ → ExposedBytes → ExposedBytes → ℕ → ℕ → Type 0
 IsNoted text before now faults faults_now = AppendedTo text before now ⊎ (FrontAppended text before now × Rose faults faults_now)
 
--- The cause of a status, each refusal's in the order in which refusals stand: of the words, of a file that isn't opened,
--- of a rank whose count is full, of a rank's input, of a text that isn't written; and what holds where there is none.
--- Want of memory has no cause that is told.
+-- The cause of a status, in the order in which refusals stand: the words, a file that couldn't be opened, a rank whose
+-- count is full, a rank's input, a text that couldn't be written. `done` is what holds where nothing was refused. For
+-- lack of memory no cause is given.
 abbrev pub EndsBy : (refused : UsageKind → Type 0) (unopened : ℕ → Type 0) (full : ℕ → ℕ → Type 0) (fault : ℕ → InputFault → Type 0) (unwritten done : Type 0) → Status → Type 0
 EndsBy refused unopened full fault unwritten done (Usage kind) = refused kind
 EndsBy refused unopened full fault unwritten done (OpenFault file) = unopened file
@@ -82,66 +78,27 @@ EndsBy refused unopened full fault unwritten done NoMemory = ⊤
 abbrev pub Opened : {S : Type 0} → Result (List (List ℕ)) UsageKind → List S → (List (List ℕ) → Type 0) → Type 0
 Opened order sources P = (names : List (List ℕ)) × (order ≡ Ok names) × (length sources ≡ length names) × P names
 
--- why the job ended so over these files, each of which was opened
-abbrev pub JobEnds : {S : Type 0} → (S → Told) → (S → ℕ) → List Told → List S → Type 0 → Status → Type 0
-JobEnds left count helds sources writing =
-    EndsBy (λ _. ⊥) (λ _. ⊥) (IsFullAtRank left count helds sources) (IsLowestFault left count helds sources) (AllRead left count helds sources × writing) (AllRead left count helds sources)
-
--- The file of this number is the first that couldn't be opened: those before it were, and not a byte of them was read.
-pub record IsFirstUnopened {S : Type 0} (left : S → Told) (count : S → ℕ) (content : List ℕ → Told) (names : List (List ℕ)) (sources : List S) (file : ℕ) : Type 0 where
+-- The file of this number is the first that couldn't be opened: those before it were, and no byte of them was read.
+pub record IsFirstUnopened {S : Type 0} (left : S → ExposedBytes) (faults : S → ℕ) (content : List ℕ → ExposedBytes) (names : List (List ℕ)) (sources : List S) (file : ℕ) : Type 0 where
   pub within : file < length names
   pub opened_before : length sources ≡ file
   pub unread : map left sources ≡ map content (take file names)
-  pub no_fault : (rank : ℕ) (source : S) → slice_get sources rank ≡ Some source → count source ≡ 0
+  pub no_fault : (rank : ℕ) (source : S) → slice_get sources rank ≡ Some source → faults source ≡ 0
 
--- Why a run ended so. Each refusal stands only where none before it does: the words are refused, or were accepted; a file
+-- Why a run ended so. A refusal stands only where none before it does: the words are refused, or were accepted; a file
 -- couldn't be opened, or each was; a rank's count is full; the input of the lowest rank with a fault failed, or all were
--- read to their ends; the text couldn't be written, or was. `order` is what the words ask for, `content` what the files
--- hold; a source tells what is left and its count of faults.
-abbrev pub RunEnds : {S : Type 0} → (S → Told) → (S → ℕ) → Result (List (List ℕ)) UsageKind → (List ℕ → Told) → List S → Type 0 → Type 0 → Status → Type 0
-RunEnds left count order content sources opening writing =
+-- read to their ends; the text couldn't be written, or was. `order` is what the words ask for, and `content` what the
+-- files contain. A source shows what remains in it (`left`) and its count of faults.
+abbrev pub RunEnds : {S : Type 0} → (S → ExposedBytes) → (S → ℕ) → Result (List (List ℕ)) UsageKind → (List ℕ → ExposedBytes) → List S → Type 0 → Type 0 → Status → Type 0
+RunEnds left faults order content sources opening writing =
     EndsBy
     (λ kind. (order ≡ Err kind) × (sources ≡ []))
-    (λ file. (names : List (List ℕ)) × (order ≡ Ok names) × IsFirstUnopened left count content names sources file × opening)
-    (λ rank at. Opened order sources (λ names. IsFullAtRank left count (map content names) sources rank at))
-    (λ rank found. Opened order sources (λ names. IsLowestFault left count (map content names) sources rank found))
-    (Opened order sources (λ names. AllRead left count (map content names) sources × writing))
-    (Opened order sources (λ names. AllRead left count (map content names) sources))
+    (λ file. (names : List (List ℕ)) × (order ≡ Ok names) × IsFirstUnopened left faults content names sources file × opening)
+    (λ rank at. Opened order sources (λ names. IsFullAtRank left faults (map content names) sources rank at))
+    (λ rank found. Opened order sources (λ names. IsLowestFault left faults (map content names) sources rank found))
+    (Opened order sources (λ names. AllRead left faults (map content names) sources × writing))
+    (Opened order sources (λ names. AllRead left faults (map content names) sources))
 
--- a status other than want of memory
-abbrev pub UnlessNoMemory : Status → Type 0 → Type 0
-UnlessNoMemory Done P = P
-UnlessNoMemory (Usage kind) P = P
-UnlessNoMemory (OpenFault file) P = P
-UnlessNoMemory (ReadFault rank) P = P
-UnlessNoMemory (BadLine rank line why) P = P
-UnlessNoMemory WriteFault P = P
-UnlessNoMemory NoMemory P = ⊤
-UnlessNoMemory (CountFull rank at) P = P
-
--- the run is done, or memory was wanting
+-- the run was complete, or out of memory
 abbrev pub IsDoneIfMemory : Status → Type 0
 IsDoneIfMemory status = (status ≡ Done) ⊎ (status ≡ NoMemory)
-
--- the status of a job that has no text
-abbrev pub status_of : JobFault → Status
-status_of (JobInput rank Read) = ReadFault rank
-status_of (JobInput rank (Bad line why)) = BadLine rank line why
-status_of (JobFull rank at) = CountFull rank at
-status_of JobNoMemory = NoMemory
-
--- the cause of a job's fault
-abbrev pub StopsBy : (full : ℕ → ℕ → Type 0) (fault : ℕ → InputFault → Type 0) → JobFault → Type 0
-StopsBy full fault (JobInput rank found) = fault rank found
-StopsBy full fault (JobFull rank at) = full rank at
-StopsBy full fault JobNoMemory = ⊤
-
--- why the job over these files has no text
-abbrev pub JobStops : {S : Type 0} → (S → Told) → (S → ℕ) → List Told → List S → JobFault → Type 0
-JobStops left count helds sources = StopsBy (IsFullAtRank left count helds sources) (IsLowestFault left count helds sources)
-
--- a rank's fault as one of the job; no rank's is a stop
-abbrev pub IsFaultOf : ℕ → CommFault → JobFault → Type 0
-IsFaultOf rank (CommFull at) fault = fault ≡ JobFull rank at
-IsFaultOf rank CommNoMemory fault = fault ≡ JobNoMemory
-IsFaultOf rank CommStopped fault = ⊥

@@ -1,53 +1,72 @@
--- Lines of a rank's input that were given to the world.
-use Rattle.std.specs.Prelude.{◌≡◌, ℕ, ◌+◌, ◌-◌, ◌*◌, ◌≤◌, ◌^◌, ◌==◌, List, ◌++◌, Option, None, Some, IfSome, length, map, if◌then◌else◌, []}
+-- Only private functions cite this: the lines of a rank's input that were given to the world.
+use Rattle.std.specs.Prelude.{◌≡◌, ℕ, ◌+◌, ◌-◌, ◌*◌, ◌<◌, ◌≤◌, ◌==◌, true, false, List, ◌++◌, Option, None, Some, IfSome, length, map, slice_index, if◌then◌else◌, []}
 use Rattle.std.specs.List.{AllByRecursion}
-use Rattle.ygm_io.specs.Content.{Told, TakenFrom, NothingLeft}
+use Rattle.ygm_io.specs.Content.{ExposedBytes, TakenFrom, NothingLeft}
 use Rattle.ygm_io.specs.Rising.{Rose}
 use Rattle.world_core.specs.Plain.{Plain}
 use Rattle.comm_rank.specs.Rank.{Rank}
 use Rattle.counting_set.specs.Counting.{Counts}
 use Rattle.ygm_run.specs.declared.status.InputFault.{InputFault}
 use Rattle.ygm_run.specs.declared.status.InputFault.TheVariants.{Read, Bad}
-use Rattle.ygm_run.specs.Carried.{Carried}
-use Rattle.ygm_run.specs.Lines.{max_line, lines_of, raw_lines, text_of, LacksLf, StartsTooLong}
+use Rattle.ygm_run.specs.Carried.{AreReady, Carried, sent_counts}
+use Rattle.ygm_run.specs.Limits.{max_line, most_letters}
+use Rattle.ygm_run.specs.Lines.{lines_of, raw_lines, text_of, LacksLf, StartsTooLong}
 use Rattle.ygm_run.specs.Reading.{Reading}
 use Rattle.ygm_run.specs.Turns.{PieceBehind, RawLineTaken, to_come}
 
--- the same lines, and more of a rank
+-- the same lines, and more of one rank
 abbrev pub with_lines : (ℕ → List (List ℕ)) → ℕ → List (List ℕ) → ℕ → List (List ℕ)
 with_lines own rank lines other = if other == rank then own other ++ lines else own other
 
--- these raw lines are gone from the front of the bytes, and go before those of any front of what is to come still
-pub record LinesTaken (raws : List (List ℕ)) (before now : Told) : Type 0 where
-  pub given : List ℕ
-  pub taken : TakenFrom given before now
-  pub lines : (front later : List ℕ) → now ≡ Some (front ++ later) → raw_lines (given ++ front) ≡ raws ++ raw_lines front
+-- These raw lines were taken, the first ones. They come before the raw lines of any prefix of what is still to come.
+pub record LinesTaken (raws : List (List ℕ)) (before now : ExposedBytes) : Type 0 where
+  pub bytes : List ℕ
+  pub taken : TakenFrom bytes before now
+  pub lines : (front later : List ℕ) → now ≡ Some (front ++ later) → raw_lines (bytes ++ front) ≡ raws ++ raw_lines front
 
--- The world was given lines of a rank: they are on their way, and were the first that were to come. None was too long.
-pub record Fed (ranks rank : ℕ) (before after : List (Rank Counts)) (old new : Plain) (reader reader_now : Reading) (left left_now : Told) : Type 0 where
+-- The world was given lines of a rank: they are on their way, and were the next that were to come. None was too long.
+pub record Fed (ranks rank : ℕ) (before after : List (Rank Counts)) (old new : Plain) (reader reader_now : Reading) (left left_now : ExposedBytes) : Type 0 where
   pub raws : List (List ℕ)
   pub carried : (own : ℕ → List (List ℕ)) → Carried own ranks before old → Carried (with_lines own rank (map text_of raws)) ranks after new
   pub taken : LinesTaken raws (to_come reader.held left) (to_come reader_now.held left_now)
   pub short : AllByRecursion (λ raw. length raw ≤ max_line) raws
   pub given : reader_now.given ≡ reader.given + length raws
 
--- a bound on the turns that a rank's input still takes, by the letters that it has sent and the bytes that are held of its next line
+-- a bound on the remaining turns of a rank's reader, by the letters that the rank has sent and the bytes that are held
 abbrev pub turns_left : ℕ → List ℕ → ℕ
-turns_left sent held = (2 ^ 56 - sent) * 2000000 + (1000000 - length held)
+turns_left sent held = (most_letters - sent) * (2 * max_line) + (max_line - length held)
 
--- Why the reading of an input ended: all of it was read, a read failed with no bad line held, or the piece that was read
--- last made the next line too long. The counts are the source's of faults, before and now.
-abbrev pub EndedWith : Option InputFault → Reading → Told → ℕ → ℕ → Type 0
+-- Why reading an input ended: all of it was read, a read failed and no bad line was held, or the last piece made the next
+-- line too long. The counts are those of the source's faults, before and now.
+abbrev pub EndedWith : Option InputFault → Reading → ExposedBytes → ℕ → ℕ → Type 0
 EndedWith None reader left faults faults_now = (reader.held ≡ []) × NothingLeft left × (faults_now ≡ faults)
 EndedWith (Some Read) reader left faults faults_now = Rose faults faults_now × LacksLf reader.held × (length reader.held ≤ max_line)
 EndedWith (Some (Bad line why)) reader left faults faults_now = IfSome (to_come reader.held left) StartsTooLong × (line ≡ reader.given + 1) × (faults_now ≡ faults) × (before : List ℕ) × PieceBehind before reader.held
 
--- a line is to come that has no more bytes than a line may have
-abbrev pub HasLine : Told → Type 0
-HasLine bytes = (text : List ℕ) × (rest : Told) × RawLineTaken text bytes rest
+-- a line is to come that isn't too long
+abbrev pub HasLine : ExposedBytes → Type 0
+HasLine bytes = (text : List ℕ) × (rest : ExposedBytes) × RawLineTaken text bytes rest
 
--- The lines of a rank's bytes are on their way, all of them where the input has no fault.
-pub record IsSent (ranks rank : ℕ) (before after : List (Rank Counts)) (old new : Plain) (left : Told) (fault : Option InputFault) : Type 0 where
+-- Lines of a rank's input are on their way, all of them where the input has no fault.
+pub record IsSent (ranks rank : ℕ) (before after : List (Rank Counts)) (old new : Plain) (left : ExposedBytes) (fault : Option InputFault) : Type 0 where
   pub lines : List (List ℕ)
   pub carried : (own : ℕ → List (List ℕ)) → Carried own ranks before old → Carried (with_lines own rank lines) ranks after new
   pub all : fault ≡ None → IfSome left (λ bytes. lines ≡ lines_of bytes)
+
+-- What a turn of a rank's reader did. If the reader is done after it, all was read or this fault was met.
+pub record TurnFed {S : Type 0} (left : S → ExposedBytes) (faults : S → ℕ) (ranks rank : ℕ) (before after : List (Rank Counts)) (old new : Plain) (reader reader_now : Reading) (source source_now : S) (fault : Option InputFault) : Type 0 where
+  pub ready : AreReady after new
+  pub fed : Fed ranks rank before after old new reader reader_now (left source) (left source_now)
+  pub sent : reader_now.given + slice_index (sent_counts before) rank ≡ reader.given + slice_index (sent_counts after) rank
+  pub bound : slice_index (sent_counts before) rank ≤ most_letters → slice_index (sent_counts after) rank ≤ most_letters
+  pub nearer : reader_now.done ≡ false → turns_left (slice_index (sent_counts after) rank) reader_now.held < turns_left (slice_index (sent_counts before) rank) reader.held
+  pub ended : reader_now.done ≡ true → EndedWith fault reader_now (left source_now) (faults source) (faults source_now)
+  pub going_on : reader_now.done ≡ false → faults source_now ≡ faults source
+  pub failed_read_took_nothing : fault ≡ Some Read → left source ≡ left source_now
+
+-- A turn found a line for which the rank's count has no room, with the limit that its counter gave.
+pub record FullAtLine {S : Type 0} (left : S → ExposedBytes) (faults : S → ℕ) (limit sent : ℕ) (reader : Reading) (source source_now : S) : Type 0 where
+  pub limit_is : limit ≡ most_letters
+  pub many : most_letters ≤ sent
+  pub no_read_failed : faults source_now ≡ faults source
+  pub line : HasLine (to_come reader.held (left source))

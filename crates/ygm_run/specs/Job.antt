@@ -1,25 +1,21 @@
 -- What the job tally reads from its sources.
 use Rattle.std.specs.Prelude.{◌≡◌, ℕ, ◌+◌, ◌*◌, List, None, Some, map, length}
 use Rattle.std.specs.List.{AllByRecursion}
-use Rattle.ygm_io.specs.Content.{Told}
+use Rattle.ygm_io.specs.Content.{ExposedBytes}
 use Rattle.ygm_run.specs.Lines.{first_too_long, lines_of, raw_lines}
-use Rattle.ygm_run.specs.Tally.{all_lines, tally_text}
+use Rattle.ygm_run.specs.TallyText.{all_lines}
 
--- all of the sources tell, these bytes
-abbrev pub AreTold : List Told → List (List ℕ) → Type 0
-AreTold lefts bytes = lefts ≡ map Some bytes
+-- all sources expose their bytes, and these are they
+abbrev pub AreExposed : List ExposedBytes → List (List ℕ) → Type 0
+AreExposed lefts bytes = lefts ≡ map Some bytes
 
 -- the lines of each of the files
 abbrev pub lines_of_each : List (List ℕ) → List (List (List ℕ))
 lines_of_each bytes = map lines_of bytes
 
--- a fact of the job's text, where the files tell their bytes
-abbrev pub OfText : List Told → (List ℕ → Type 0) → Type 0
-OfText helds P = (bytes : List (List ℕ)) → AreTold helds bytes → P (tally_text (lines_of_each bytes))
-
 -- a bound on the letters that a rank of the job sends, by the lines of all files
-abbrev pub most_letters : List (List (List ℕ)) → ℕ
-most_letters files = 2 * length (all_lines files) + 3
+abbrev pub letters_bound : List (List (List ℕ)) → ℕ
+letters_bound files = 2 * length (all_lines files) + 3
 
 -- no line of the files is bad
 abbrev pub AreGood : List (List ℕ) → Type 0

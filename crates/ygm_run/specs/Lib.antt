@@ -1,12 +1,14 @@
 pub mod Carried
 pub mod Ending
 pub mod Fed
+pub mod Held
 pub mod Inputs
 pub mod Job
+pub mod JobEnds
+pub mod Limits
 pub mod Lines
 pub mod Notes
-pub mod Pieces
 pub mod Reading
-pub mod Tally
+pub mod TallyText
 pub mod Turns
 pub mod Words

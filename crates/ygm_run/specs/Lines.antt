@@ -1,17 +1,14 @@
--- The lines of bytes. A line ends at LF (10), and one CR (13) at its end is no part of its text.
+-- The lines of bytes. A line ends at LF (10), and one CR (13) at its end isn't part of its text.
 use Rattle.std.specs.Prelude.{◌≡◌, ◌≢◌, ◌==◌, ℕ, ◌+◌, List, [], ◌∷◌, All, count_by, map, length, ◌++◌, ◌<◌, ◌≤◌, Option, None, Some, nat_lt, if◌then◌else◌}
 use Rattle.std.specs.Option.{option_map}
+use Rattle.ygm_run.specs.Limits.{max_line}
 
--- how many bytes a line has at most, a CR counted and its LF not
-abbrev pub max_line : ℕ
-max_line = 1000000
-
--- the lines with a byte put before the first
+-- the lines, the first with a byte put before it
 abbrev pub onto_first : ℕ → List (List ℕ) → List (List ℕ)
 onto_first byte [] = (byte ∷ []) ∷ []
 onto_first byte (line ∷ lines) = (byte ∷ line) ∷ lines
 
--- the parts at each LF, without it; a rest that isn't empty is a line too
+-- the parts between LFs; what follows the last LF is a line too, unless it is empty
 abbrev pub raw_lines : List ℕ → List (List ℕ)
 raw_lines [] = []
 raw_lines (byte ∷ bytes) = if byte == 10 then [] ∷ raw_lines bytes else onto_first byte (raw_lines bytes)
@@ -26,7 +23,7 @@ text_of (byte ∷ next ∷ bytes) = byte ∷ text_of (next ∷ bytes)
 abbrev pub lines_of : List ℕ → List (List ℕ)
 lines_of bytes = map text_of (raw_lines bytes)
 
--- no line ends in these bytes
+-- these bytes have no LF
 abbrev pub LacksLf : List ℕ → Type 0
 LacksLf bytes = All (λ byte. byte ≢ 10) bytes
 

@@ -6,7 +6,7 @@ use Rattle.ygm_run.specs.declared.status.Status.{Status}
 use Rattle.ygm_run.specs.declared.status.Status.TheVariants.{Done, Usage, OpenFault, ReadFault, BadLine, WriteFault, NoMemory, CountFull}
 use Rattle.ygm_run.specs.Words.{kind_text}
 
--- the number that the program ends with
+-- the exit status of the program
 abbrev pub number_of : Status → ℕ
 number_of Done = 0
 number_of (Usage kind) = 1
@@ -25,7 +25,7 @@ why_text TooLong = codes "line too long"
 abbrev pub name_of : ℕ → List (List ℕ) → List ℕ
 name_of file names = unwrap_or (slice_get names file) []
 
--- a line of the program's own
+-- a line that the program writes of itself
 abbrev pub note_line : List ℕ → List ℕ
 note_line text = codes "ygm_run: " ++ text ++ codes "\n"
 
@@ -40,7 +40,7 @@ note_text WriteFault names = note_line (codes "write failed")
 note_text NoMemory names = note_line (codes "out of memory")
 note_text (CountFull rank at) names = note_line (codes "rank " ++ decimal rank ++ codes " is at a limit of its counts")
 
--- the file that a status speaks of, if it does, is one of so many
+-- if the status names a file, its number is below this count
 abbrev pub FileIsBelow : ℕ → Status → Type 0
 FileIsBelow count Done = ⊤
 FileIsBelow count (Usage kind) = ⊤

@@ -2,9 +2,9 @@
 use Rattle.std.specs.Prelude.{ℕ, List, Bool}
 
 pub record Reading : Type 0 where
-  -- the bytes that were read and not given, in order
+  -- the bytes that were read and not returned, in order
   pub held : List ℕ
-  -- how many lines were given
+  -- how many lines were returned
   pub given : ℕ
-  -- no other turn comes
+  -- whether there is no other turn
   pub done : Bool

@@ -1,6 +1,7 @@
 -- What the program's words ask for, and why they are refused. A word is the list of its bytes.
 use Rattle.std.specs.Prelude.{ℕ, List, [], ◌∷◌, Result, Ok, Err, String, bytes_eq, codes, length, map, nat_eq, nat_lt, ◌==◌, string_bytes, if◌then◌else◌}
 use Rattle.std.specs.List.{starts_with}
+use Rattle.ygm_run.specs.Limits.{max_ranks}
 use Rattle.ygm_run.specs.declared.words.UsageKind.{UsageKind}
 use Rattle.ygm_run.specs.declared.words.UsageKind.TheVariants.{NoJob, UnknownJob, UnknownOption, NoFile, TooManyRanks}
 
@@ -24,20 +25,20 @@ files_of (word ∷ words) =
     else if starts_with nat_eq word (codes "--") then Err UnknownOption
     else Ok (word ∷ words)
 
--- the files of which there is one at least, and one for each of 32 ranks at most
+-- the files, of which there are 1 to 32
 abbrev pub with_ranks : Result (List (List ℕ)) UsageKind → Result (List (List ℕ)) UsageKind
 with_ranks (Err kind) = Err kind
 with_ranks (Ok files) =
     if length files == 0 then Err NoFile
-    else if nat_lt 32 (length files) then Err TooManyRanks
+    else if nat_lt max_ranks (length files) then Err TooManyRanks
     else Ok files
 
--- the files that words give to the job tally, or the first refusal that holds
+-- the files for the job tally that the words name, or the first refusal that applies
 abbrev pub order_of : List (List ℕ) → Result (List (List ℕ)) UsageKind
 order_of [] = Err NoJob
 order_of (job ∷ words) = if bytes_eq job (codes "tally") then with_ranks (files_of words) else Err UnknownJob
 
--- the files of words that are accepted, and none of those that are refused
+-- the files of accepted words, and none of refused ones
 abbrev pub named : Result (List (List ℕ)) UsageKind → List (List ℕ)
 named (Ok names) = names
 named (Err kind) = []

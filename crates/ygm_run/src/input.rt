@@ -1,11 +1,10 @@
-//! A rank's file, from its bytes to letters on their way.
-ghost use Rattle.std.specs.Prelude.{◌≡◌, ◌<◌, ◌≤◌, ◌+◌, ◌^◌, false, true, Some, slice_index, IfOk, IfErr, OnOk};
+//! A rank's file: its bytes are read, and its lines are sent.
+ghost use Rattle.std.specs.Prelude.{◌≡◌, ◌<◌, ◌≤◌, ◌^◌, false, slice_index, IfOk, IfErr, OnOk};
 ghost use Rattle.comm_rank.specs.Fault.{IfCountFull, NeverStopped};
+ghost use Rattle.ygm_run.specs.Limits.{most_letters};
 ghost use Rattle.ygm_run.specs.Carried.{AreReady, sent_counts};
-ghost use Rattle.ygm_run.specs.Fed.{EndedWith, Fed, HasLine, IsSent, turns_left};
+ghost use Rattle.ygm_run.specs.Fed.{FullAtLine, IsSent, TurnFed};
 ghost use Rattle.ygm_run.specs.Inputs.{IsFull, IsRead, IsRest};
-ghost use Rattle.ygm_run.specs.Turns.{to_come};
-ghost use Rattle.ygm_run.specs.declared.status.InputFault.TheVariants.{Read};
 
 use crate::line_reader::{Got, LineFault, LineReader};
 use crate::status::{InputFault, LineWhy};
@@ -14,7 +13,7 @@ use comm_rank::CommFault;
 use std::alloc::Global;
 use ygm_io::Source;
 
-// Takes a turn of the reader, and sends the line that it gives. Where the reader is done then, all was read or this
+// Takes a turn of the reader, and sends the line that it returns. If the reader is done after it, all was read or this
 // fault was met.
 fn take_turn<S: Source>(
     world: &mut World,
@@ -25,23 +24,12 @@ fn take_turn<S: Source>(
     requires below { rank < world.old.ranks }
     requires ready { AreReady world.old.comms.items world.old.links }
     requires open { reader.old.done ≡ false }
-    requires few { reader.old.given ≤ 2 ^ 56 }
-    ensures ready { OnOk result (AreReady world.new.comms.items world.new.links) }
-    ensures fed { OnOk result (Fed world.old.ranks rank world.old.comms.items world.new.comms.items world.old.links world.new.links
-        reader.old reader.new (S.left source.old) (S.left source.new)) }
-    ensures sent { OnOk result (reader.new.given + slice_index (sent_counts world.old.comms.items) rank
-        ≡ reader.old.given + slice_index (sent_counts world.new.comms.items) rank) }
-    ensures bound { OnOk result (slice_index (sent_counts world.old.comms.items) rank ≤ 2 ^ 56
-        → slice_index (sent_counts world.new.comms.items) rank ≤ 2 ^ 56) }
-    ensures nearer { OnOk result (reader.new.done ≡ false →
-        turns_left (slice_index (sent_counts world.new.comms.items) rank) reader.new.held
-        < turns_left (slice_index (sent_counts world.old.comms.items) rank) reader.old.held) }
-    ensures ended { IfOk result (λ fault. reader.new.done ≡ true → EndedWith fault reader.new (S.left source.new) (S.faults source.old) (S.faults source.new)) }
-    ensures going_on { OnOk result (reader.new.done ≡ false → S.faults source.new ≡ S.faults source.old) }
-    ensures full { IfErr result (λ fault. IfCountFull fault (λ limit. (limit ≡ 2 ^ 56) × (2 ^ 56 ≤ slice_index (sent_counts world.old.comms.items) rank)
-        × (S.faults source.new ≡ S.faults source.old) × HasLine (to_come reader.old.held (S.left source.old)))) }
+    requires few { reader.old.given ≤ most_letters }
+    ensures fed { IfOk result (TurnFed S.left S.faults world.old.ranks rank world.old.comms.items world.new.comms.items world.old.links world.new.links
+        reader.old reader.new source.old source.new) }
+    ensures full { IfErr result (λ fault. IfCountFull fault (λ limit.
+        FullAtLine S.left S.faults limit (slice_index (sent_counts world.old.comms.items) rank) reader.old source.old source.new)) }
     ensures never_stopped { IfErr result NeverStopped }
-    ensures failed_read_took_nothing { IfOk result (λ fault. fault ≡ Some Read → S.left source.old ≡ S.left source.new) }
     ensures rest { IsRest (S.left source.old) (S.left source.new) }
     ensures ranks { world.new.ranks ≡ world.old.ranks }
 {

@@ -5,6 +5,7 @@ ghost use Rattle.std.specs.Prelude.{◌≡◌, ◌⊎◌, drop, IfErr, IfOk};
 ghost use Rattle.std.specs.Vec.Iter.{into_iter_items};
 
 mod input;
+pub mod limit_laws;
 pub mod line_laws;
 pub mod line_reader;
 pub mod note;
@@ -27,20 +28,20 @@ use std::rt::Env;
 use std::vec::IntoIter;
 use ygm_io::{StdFiles, StdSink};
 
-/// How a run ends whose words can't be read: what it tells, and its number.
+/// How a run ends if the arguments can't be read: its note and its exit status.
 const BAD_WORDS: (&str, u8) = ("a word is no text", 1);
 
-/// How a run ends for which memory is wanting before it begins.
+/// How a run ends if memory runs out before it begins.
 const NO_MEMORY: (&str, u8) = ("out of memory", 6);
 
-// The words behind the first, which is the program's name. None is left out where memory is wanting.
+// The arguments after the first, which is the program's name: all of them, or none for lack of memory.
 fn behind_name(alloc: Global, args: IntoIter<String>) -> Result<Vec<String>, AllocError>
     ensures { IfOk result (λ words. words.items ≡ drop 1 (into_iter_items args)) }
 {
     args.skip(1).collect(alloc)
 }
 
-// The words behind the program's name.
+// The arguments after the program's name.
 fn words_of(rt: &(impl Env + AllocGlobal)) -> Result<Vec<String>, (&'static str, u8)>
     ensures number { IfErr result (λ refusal. (refusal.1 ≡ 1) ⊎ (refusal.1 ≡ 6)) }
 {

@@ -1,4 +1,4 @@
-//! The note of a status: what the program tells about how it ended.
+//! The note of a status: what the program writes about how it ended.
 ghost use Rattle.std.specs.Prelude.{◌≡◌, IfOk, length, string_bytes};
 ghost use Rattle.ygm_run.specs.Notes.{FileIsBelow, note_text};
 ghost use Rattle.ygm_run.specs.Words.{texts_of};
@@ -7,10 +7,10 @@ use crate::status::Status;
 use msg_codec::Body2;
 use std::alloc::{AllocError, Global};
 
-/// The note of a text that couldn't be written. It is there before the first write.
+/// The note of a text that couldn't be written. It takes no memory, so that it can follow a failed write.
 pub(crate) const WRITE_FAILED: &str = "ygm_run: write failed\n";
 
-/// The note of memory that ran out, for which none is wanted.
+/// The note of memory that ran out. It takes none.
 pub(crate) const OUT_OF_MEMORY: &str = "ygm_run: out of memory\n";
 
 /// The text of a status's note.
@@ -37,7 +37,7 @@ fn text_of(alloc: Global, status: &Status, names: &[String]) -> Result<String, A
 }
 
 /// The note of a status: one line, or no bytes for `Done`. `names` are the files' names in their order.
-/// An error is want of memory; nothing is left of the note then.
+/// An error is lack of memory.
 pub fn note_of(alloc: Global, status: &Status, names: &[String]) -> Result<Body2, AllocError>
     requires { FileIsBelow (length names.now) status.now }
     ensures { IfOk result (λ note. note ≡ note_text status.now (texts_of names.now)) }

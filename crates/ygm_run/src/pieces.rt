@@ -1,9 +1,9 @@
-//! The bytes that were read and not given yet.
-ghost use Rattle.std.specs.Prelude.{◌≡◌, ◌+◌, ◌<◌, ◌≤◌, ℕ, List, [], ◌∷◌, ◌++◌, length, take, drop, IfSome, IfNone, IfOk, OnOk, OnErr};
-ghost use Rattle.ygm_io.specs.Content.{TakenFrom, NothingLeft};
-ghost use Rattle.ygm_io.specs.Rising.{Rose};
-ghost use Rattle.ygm_run.specs.Lines.{LacksLf, StartsTooLong, text_of, max_line};
-ghost use Rattle.ygm_run.specs.Pieces.{AreGathered, AreLastLine, AreOpen, StartsWithLine, held_in};
+//! The bytes that were read and not returned yet.
+ghost use Rattle.std.specs.Prelude.{◌≡◌, ◌+◌, ◌<◌, ◌≤◌, [], ◌∷◌, ◌++◌, length, take, drop, IfSome, IfNone, IfOk, OnOk, OnErr};
+ghost use Rattle.ygm_run.specs.Limits.{max_line};
+ghost use Rattle.ygm_run.specs.Lines.{LacksLf, text_of};
+ghost use Rattle.ygm_run.specs.Held.{AreGathered, AreLastLine, AreOpen, GavePiece, GaveText, IsPartial, IsTooLong, held_in, held_with};
+ghost use Rattle.ygm_run.specs.Turns.{ReadFailed};
 
 use memchr::memchr;
 use std::alloc::{AllocError, Global};
@@ -13,22 +13,22 @@ use ygm_io::{Failed, Source};
 /// How many bytes one read asks for.
 pub const READING_SPACE: usize = 65_536;
 
-/// How many bytes a line has at most, a CR counted and its LF not.
+/// How many bytes a line has at most, including a CR and without its LF.
 const MAX_LINE: usize = 1_000_000;
 
 /// The present line has more bytes than a line may have.
 pub struct TooLong;
 
-/// The bytes that were read and not given yet: those of the present line from earlier pieces, and the
-/// rest of the last piece. A byte is searched for an LF once.
+/// The bytes that were read and not returned yet: those of the present line from earlier pieces, and what
+/// remains of the last piece. A byte is searched for an LF once.
 #[derive(Debug, Drop)]
 pub struct Pieces {
     alloc: Global,
-    /// What a source reads into; the bytes from `start` to `end` wait to be given.
+    /// What a source reads into. The bytes from `start` to `end` are still to be returned.
     pub buffer: Vec<u8>,
     pub start: usize,
     pub end: usize,
-    /// The bytes of the present line from earlier pieces, which hold no LF.
+    /// The bytes of the present line from earlier pieces. They have no LF.
     pub carry: Vec<u8>,
 }
 
@@ -46,28 +46,26 @@ impl Pieces {
         })
     }
 
-    /// The text of the first line, where the buffer holds it whole. It is copied before anything changes.
+    /// The text of the first line, if the buffer has all of it. It is copied before anything changes.
     pub fn whole_line(&mut self) -> Result<Option<Vec<u8>>, AllocError>
         requires { AreOpen self.old }
         ensures open { OnOk result (AreOpen self.new) }
-        ensures line { IfOk result (λ found. IfSome found (λ text.
-            StartsWithLine (held_in self.old) text.items (held_in self.new))) }
-        ensures bound { IfOk result (λ found. IfSome found (λ text. length (held_in self.new) ≤ READING_SPACE)) }
+        ensures line { IfOk result (λ found. IfSome found (λ text. GaveText (held_in self.old) text.items (held_in self.new))) }
         ensures none { IfOk result (λ found. IfNone found (LacksLf (held_in self.old))) }
         ensures stays { IfOk result (λ found. IfNone found (self.new ≡ self.old)) }
         ensures err { OnErr result (self.new ≡ self.old) }
     {
-        let waiting = &self.buffer[self.start..self.end];
-        let Some(length) = line_end(waiting) else {
+        let buffered = &self.buffer[self.start..self.end];
+        let Some(length) = line_end(buffered) else {
             return Ok(None);
         };
-        let line = &waiting[..length];
+        let line = &buffered[..length];
         let text = Vec::from_slice(self.alloc, &line[..text_len(line)])?;
         self.start += length + 1;
         Ok(Some(text))
     }
 
-    /// Moves what waits in the buffer to the carry, and takes the room for a whole piece behind it.
+    /// Moves what is still in the buffer to the carry, and takes memory there for a whole piece more.
     pub fn gather(&mut self) -> Result<(), AllocError>
         requires open { AreOpen self.old }
         requires partial { LacksLf (held_in self.old) }
@@ -76,9 +74,9 @@ impl Pieces {
         ensures gathered { OnOk result (AreGathered self.new) }
         ensures short { OnOk result (length (held_in self.new) ≤ max_line) }
     {
-        let waiting = &self.buffer[self.start..self.end];
-        self.carry.reserve(waiting.len() + READING_SPACE)?;
-        self.carry.extend_from_slice(waiting)?;
+        let buffered = &self.buffer[self.start..self.end];
+        self.carry.reserve(buffered.len() + READING_SPACE)?;
+        self.carry.extend_from_slice(buffered)?;
         self.start = 0;
         self.end = 0;
         Ok(())
@@ -91,19 +89,14 @@ impl Pieces {
         ensures open { AreOpen self.new }
         ensures gathered { AreGathered self.new }
         ensures same { held_in self.new ≡ held_in self.old }
-        ensures within { IfOk result (λ count. count ≤ READING_SPACE) }
-        ensures taken { IfOk result (λ count.
-            TakenFrom (take count self.new.buffer.items) (S.left source.old) (S.left source.new)) }
-        ensures end { IfOk result (λ count. count ≡ 0 → NothingLeft (S.left source.old)) }
-        ensures stands { OnOk result (S.faults source.new ≡ S.faults source.old) }
-        ensures cause { OnErr result (Rose (S.faults source.old) (S.faults source.new)) }
-        ensures unchanged { OnErr result (S.left source.new ≡ S.left source.old) }
+        ensures piece { IfOk result (λ count. GavePiece S.left S.faults count self.new.buffer.items source.old source.new) }
+        ensures failed { OnErr result (ReadFailed S.left S.faults (held_in self.new) source.old source.new) }
         ensures never_falls { S.faults source.old ≤ S.faults source.new }
     {
         source.read(&mut self.buffer)
     }
 
-    /// The text of the last line, which no LF ends, where there is one.
+    /// The text of the last line, which no LF ends, if there is one.
     pub fn last_line(&mut self) -> Option<Vec<u8>>
         requires open { AreOpen self.old }
         requires gathered { AreGathered self.old }
@@ -118,22 +111,16 @@ impl Pieces {
         Some(self.take_carry())
     }
 
-    /// Takes the piece that was read, and answers the text of the line that it made whole, if it did.
-    /// No memory is taken: the line gets the carry itself.
+    /// Takes in the piece that was read, and returns the text of the line that it made whole, if it did.
+    /// Takes no memory: the line gets the carry itself.
     pub fn take_piece(&mut self, count: usize) -> Result<Option<Vec<u8>>, TooLong>
         requires open { AreOpen self.old }
         requires gathered { AreGathered self.old }
         requires within { count ≤ READING_SPACE }
         ensures open { OnOk result (AreOpen self.new) }
-        ensures line { IfOk result (λ found. IfSome found (λ text.
-            StartsWithLine (held_in self.old ++ take count self.old.buffer.items) text.items (held_in self.new))) }
-        ensures bound { IfOk result (λ found. IfSome found (λ text. length (held_in self.new) ≤ READING_SPACE)) }
-        ensures none { IfOk result (λ found. IfNone found
-            (held_in self.new ≡ held_in self.old ++ take count self.old.buffer.items)) }
-        ensures partial { IfOk result (λ found. IfNone found (LacksLf (held_in self.new))) }
-        ensures short { IfOk result (λ found. IfNone found (length (held_in self.new) ≤ max_line)) }
-        ensures err { OnErr result (held_in self.new ≡ held_in self.old ++ take count self.old.buffer.items) }
-        ensures too_long { OnErr result ((rest : List ℕ) → StartsTooLong (held_in self.new ++ rest)) }
+        ensures line { IfOk result (λ found. IfSome found (λ text. GaveText (held_with count self.old) text.items (held_in self.new))) }
+        ensures none { IfOk result (λ found. IfNone found (IsPartial (held_with count self.old) (held_in self.new))) }
+        ensures too_long { OnErr result (IsTooLong (held_with count self.old) (held_in self.new)) }
     {
         let piece = &self.buffer[..count];
         let found = line_end(piece);
@@ -151,7 +138,7 @@ impl Pieces {
         Ok(Some(self.take_carry()))
     }
 
-    /// The carry without a CR at its end. An empty one stands in its place.
+    /// The carry without a CR at its end. An empty one takes its place.
     fn take_carry(&mut self) -> Vec<u8>
         ensures text { result.items ≡ text_of self.old.carry.items }
         ensures taken { self.new ≡ record self.old { carry = self.new.carry } }
@@ -164,7 +151,7 @@ impl Pieces {
     }
 }
 
-/// Where the first LF stands.
+/// Where the first LF is.
 fn line_end(bytes: &[u8]) -> Option<usize>
     ensures within { IfSome result (λ end. end < length bytes.now) }
     ensures partial { IfSome result (λ end. LacksLf (take end bytes.now)) }

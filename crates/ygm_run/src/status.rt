@@ -39,7 +39,7 @@ pub enum Status {
     Done,
     /// The words were refused.
     Usage { kind: UsageKind },
-    /// The first file, counted from 0, that couldn't be opened. Tests show that none after it is tried.
+    /// The first file, counted from 0, that couldn't be opened. That none after it is tried is only tested.
     OpenFault { file: u32 },
     /// A read of the rank's file failed, and no rank below has a fault.
     ReadFault { rank: u32 },
@@ -49,12 +49,12 @@ pub enum Status {
     WriteFault,
     /// Memory ran out.
     NoMemory,
-    /// A counter of the rank stood at its limit.
+    /// A counter of the rank is at its limit.
     CountFull { rank: u32, at: AtLimit },
 }
 
 impl Status {
-    /// The number that the program ends with.
+    /// The exit status of the program.
     pub fn number(&self) -> u8
         ensures { result ≡ number_of self.now }
     {

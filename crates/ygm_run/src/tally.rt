@@ -1,11 +1,12 @@
-//! The job `tally`: how often each line stands in the files.
+//! The job `tally`: how often each line occurs in the files.
 ghost use Rattle.std.specs.Prelude.{◌≡◌, ◌<◌, ◌≤◌, ℕ, List, [], Some, map, length, slice_get, slice_index_or, IfOk, IfErr, OnOk};
 ghost use Rattle.std.specs.Option.{option_map};
 ghost use Rattle.comm_rank.specs.Fault.{NeverStopped};
+ghost use Rattle.ygm_run.specs.Limits.{max_ranks};
 ghost use Rattle.ygm_run.specs.Carried.{AreReady, Carried};
-ghost use Rattle.ygm_run.specs.Ending.{IsFaultOf, JobStops};
+ghost use Rattle.ygm_run.specs.JobEnds.{IsFaultOf, JobStops, OfText};
 ghost use Rattle.ygm_run.specs.Inputs.{AllRead, AreRests};
-ghost use Rattle.ygm_run.specs.Job.{AreTold, OfText, lines_of_each};
+ghost use Rattle.ygm_run.specs.Job.{AreExposed, lines_of_each};
 
 use crate::input::read_file;
 use crate::status::InputFault;
@@ -58,15 +59,15 @@ fn with_rank(rank: u32, fault: Option<InputFault>) -> Option<(u32, InputFault)>
     fault.map(|fault| (rank, fault))
 }
 
-// Reads each file, in the order of ranks, and sends its lines. One that has a fault leaves the others to be read, and
-// the fault of the lowest rank is answered.
+// Reads each file, in the order of ranks, and sends its lines. After a fault of one file the others are still read, and
+// the fault of the lowest rank is returned.
 fn read_all<S: Source>(alloc: Global, world: &mut World, sources: &mut [S]) -> Result<(), JobFault>
     requires all { length sources.old ≡ world.old.ranks }
     requires fresh { (rank : ℕ) (source : S) → slice_get sources.old rank ≡ Some source → S.faults source ≡ 0 }
     requires ready { AreReady world.old.comms.items world.old.links }
     requires nothing_sent { Carried (λ _. []) world.old.ranks world.old.comms.items world.old.links }
     ensures ready { OnOk result (AreReady world.new.comms.items world.new.links) }
-    ensures sent { OnOk result ((bytes : List (List ℕ)) → AreTold (map S.left sources.old) bytes
+    ensures sent { OnOk result ((bytes : List (List ℕ)) → AreExposed (map S.left sources.old) bytes
         → Carried (λ rank. slice_index_or (lines_of_each bytes) rank []) world.old.ranks world.new.comms.items world.new.links) }
     ensures read { OnOk result (AllRead S.left S.faults (map S.left sources.old) sources.new) }
     ensures cause { IfErr result (JobStops S.left S.faults (map S.left sources.old) sources.new) }
@@ -87,10 +88,10 @@ fn read_all<S: Source>(alloc: Global, world: &mut World, sources: &mut [S]) -> R
     }
 }
 
-/// The text of the sources' lines: of each rank its own source, of which nothing was read yet.
+/// The text of the sources' lines. Each rank has a source of its own, of which nothing was read yet.
 pub(crate) fn tally<S: Source>(alloc: Global, sources: &mut [S]) -> Result<Vec<u8>, JobFault>
     requires some { 0 < length sources.old }
-    requires few { length sources.old ≤ 32 }
+    requires few { length sources.old ≤ max_ranks }
     requires fresh { (rank : ℕ) (source : S) → slice_get sources.old rank ≡ Some source → S.faults source ≡ 0 }
     ensures text { IfOk result (λ text. OfText (map S.left sources.old) (λ all. text.items ≡ all)) }
     ensures read { OnOk result (AllRead S.left S.faults (map S.left sources.old) sources.new) }
@@ -104,7 +105,7 @@ pub(crate) fn tally<S: Source>(alloc: Global, sources: &mut [S]) -> Result<Vec<u
     read_all(alloc, &mut world, sources)?;
     match world.drain() {
         Ok(()) => Ok(world.text()?),
-        // A drain is refused for want of memory alone.
+        // A drain fails only for lack of memory.
         Err(_) => Err(JobFault::NoMemory),
     }
 }

@@ -13,7 +13,7 @@ ghost use Rattle.std.specs.Prelude.{
   min,
   sum_by,
 };
-ghost use Rattle.ygm_run.specs.Tally.{
+ghost use Rattle.ygm_run.specs.TallyText.{
   AreCounts,
   IsBefore,
   IsTableOf,
@@ -30,8 +30,8 @@ use std::alloc::{AllocError, Global};
 
 /// The table of items and their counts: one row for each entry, in byte order of the items.
 ///
-/// The entries are taken in any order; one whose item stands in two entries has two rows, the lower
-/// count first. An error is want of memory; nothing is left of the text then.
+/// The entries may come in any order. An item in two entries has two rows, the lower count first. An error
+/// is lack of memory.
 pub fn table_of(alloc: Global, mut entries: Vec<(&[u8], u64)>) -> Result<Vec<u8>, AllocError>
     ensures sorted_rows { IfOk result (λ text. IsTableOf (pairs_of entries.entry.items) text.items) }
     ensures text_of_counted_lines { IfOk result (λ text. (files : List (List (List ℕ))) →
@@ -41,11 +41,11 @@ pub fn table_of(alloc: Global, mut entries: Vec<(&[u8], u64)>) -> Result<Vec<u8>
     rows_of(alloc, &entries)
 }
 
-/// The most that a row has beside its item: the 20 digits of a `u64`, TAB and LF.
+/// The most bytes that a row has besides its item: the 20 digits of a `u64`, TAB and LF.
 const ROW_FRAME: usize = 22;
 
-/// Bytes that are enough for the rows of the entries. Where their sum is above the largest number it
-/// is that number, for which there is no memory.
+/// Bytes that are enough for the rows of the entries. If their sum is above the largest number, it is that
+/// number, for which there is no memory.
 fn room_for(entries: &[(&[u8], u64)]) -> usize
     ensures { result ≡ min (sum_by (λ entry. length entry.0.now + ROW_FRAME) entries.now) usize.MAX }
 {
@@ -71,15 +71,15 @@ fn rows_of(alloc: Global, entries: &[(&[u8], u64)]) -> Result<Vec<u8>, AllocErro
     Ok(text)
 }
 
-/// There is one table: rows of items that rise in byte order and are the lines of the files, each
-/// with the number of lines equal to it, are the text of these files.
+/// There is one table: if items rise in byte order and are the lines of the files, their rows, each with the
+/// number of lines equal to its item, are the text of these files.
 pub fn one_table()
     ensures { (files : List (List (List ℕ))) (items : List (List ℕ)) → AllPairs IsBefore items →
         ((item : List ℕ) → Contains items item ↔ Contains (all_lines files) item) →
         tally_text files ≡ table_with items (all_lines files) }
 {}
 
-/// The items of the text rise in byte order, and are the lines that stand in the files.
+/// The items of the text rise in byte order, and are the lines of the files.
 pub fn each_line_has_its_row()
     ensures rising { (lines : List (List ℕ)) → AllPairs IsBefore (distinct_items lines) }
     ensures lines { (lines : List (List ℕ)) (item : List ℕ) →

@@ -7,7 +7,7 @@ use std::process::Abort;
 use std::test::Fail;
 use ygm_io::{CalmFiles, CalmSink, MemFiles, MemSink, MemSource};
 
-// What a run over objects in memory leaves.
+// What a run over objects in memory ends with.
 #[derive(Drop)]
 struct Outcome {
     ended: Ended<MemSource>,

@@ -1,5 +1,6 @@
 //! The words that the program is called with: a job and its files.
 ghost use Rattle.std.specs.Prelude.{◌≡◌, ◌≤◌, Ok, Err, MatchResult, IfOk, length};
+ghost use Rattle.ygm_run.specs.Limits.{max_ranks};
 ghost use Rattle.ygm_run.specs.Notes.{note_line};
 ghost use Rattle.ygm_run.specs.Words.{files_of, kind_text, order_of, texts_of};
 
@@ -28,7 +29,7 @@ pub enum UsageKind {
 }
 
 impl UsageKind {
-    /// The line that the program tells of the refusal. No memory is taken.
+    /// The line that the program writes about the refusal. Takes no memory.
     pub fn note(&self) -> &'static str
         ensures { result.now ≡ note_line (kind_text self.now) }
     {
@@ -48,17 +49,17 @@ pub struct Order<'a> {
     pub names: &'a [String],
 }
 
-/// Reads words. The names are lent from the words, so that no memory is taken.
+/// Reads words. The names are borrowed from the words, so this takes no memory.
 ///
 /// The words after the job are options up to the word `--`, which is dropped, or to a word that
 /// doesn't begin with `--`. The words from there on are files, whatever they begin with. The kinds of
-/// refusal stand in their order: the first that holds is answered.
+/// refusal stand in their order: the first that applies is returned.
 pub fn read_words(words: &[String]) -> Result<Order<'_>, UsageKind>
     ensures exact { MatchResult result
         (λ order. order_of (texts_of words.now) ≡ Ok (texts_of order.names.now))
         (λ kind. order_of (texts_of words.now) ≡ Err kind) }
     ensures some { IfOk result (λ order. 1 ≤ length order.names.now) }
-    ensures few { IfOk result (λ order. length order.names.now ≤ 32) }
+    ensures few { IfOk result (λ order. length order.names.now ≤ max_ranks) }
 {
     let [job, rest @ ..] = words else {
         return Err(UsageKind::NoJob);
@@ -76,7 +77,7 @@ pub fn read_words(words: &[String]) -> Result<Order<'_>, UsageKind>
     }
 }
 
-/// The files that the words after a job name. No option is known, so that each is refused.
+/// The files that the words after a job name. No option is known, so each is refused.
 fn names_of(words: &[String]) -> Result<&[String], UsageKind>
     ensures { MatchResult result
         (λ names. files_of (texts_of words.now) ≡ Ok (texts_of names.now))

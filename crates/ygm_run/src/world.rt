@@ -4,7 +4,7 @@ ghost use Rattle.ygm_route.specs.declared.scheme.Scheme.TheVariants.{Direct};
 ghost use Rattle.comm_rank.specs.declared.fault.CommFault.TheVariants.{NoMemory};
 ghost use Rattle.comm_rank.specs.Fault.{IsFullAt, NeverStopped};
 ghost use Rattle.ygm_run.specs.Carried.{AreFresh, AreReady, Carried, HasSettled, IsQuiet, LineSent, kept, sent_counts};
-ghost use Rattle.ygm_run.specs.Tally.{AreCounts, all_lines, pairs_of, tally_text};
+ghost use Rattle.ygm_run.specs.TallyText.{AreCounts, all_lines, pairs_of, tally_text};
 
 use crate::tally_text::table_of;
 use comm_rank::{Comm, CommFault, settle};
@@ -13,10 +13,10 @@ use std::alloc::{AllocError, Global};
 use world_core::{Limits, PlainLinks};
 use ygm_route::{Layout, Scheme};
 
-/// How many letters a rank sends before what waits is run, so that few are on their way.
+/// After how many letters of a rank the letters are run, so that few are on their way.
 const SETTLE_EVERY: u64 = 4096;
 
-/// How many batches a link holds: as many as a rank sends before what waits is run.
+/// How many batches a link holds: as many as a rank sends before they are run.
 const RING: u32 = 4096;
 
 /// All ranks of a world, and the links between them.
@@ -80,8 +80,8 @@ impl World {
         count_insert(self.alloc, &mut self.comms[rank as usize], line)
     }
 
-    // The weak barrier of one rank. It is refused for want of memory alone: counting sends no letters, so that no count
-    // is full, and none has raised the stop, since a rank that fails ends the run.
+    // The weak barrier of one rank. It fails only for lack of memory: counting sends no letters, so no count gets full,
+    // and no rank has raised the stop, since a rank that fails ends the run.
     fn settle(&mut self, caller: u32) -> Result<(), CommFault>
         requires below { caller < self.old.ranks }
         requires ready { AreReady self.old.comms.items self.old.links }
@@ -92,7 +92,7 @@ impl World {
         settle(&mut self.comms, &mut self.links, caller)
     }
 
-    /// Sends a line of a rank to the rank that owns it. Every few thousand lines what waits is run.
+    /// Sends a line of a rank to the rank that owns it. After every few thousand lines, what was sent is run.
     pub(crate) fn add_line(&mut self, rank: u32, line: &[u8]) -> Result<(), CommFault>
         requires below { rank < self.old.ranks }
         requires short { length line.now ≤ 1000000 }
@@ -109,7 +109,7 @@ impl World {
         Ok(())
     }
 
-    /// Runs all that was sent. It is refused for want of memory alone.
+    /// Runs all that was sent. It fails only for lack of memory.
     pub(crate) fn drain(&mut self) -> Result<(), CommFault>
         requires ready { AreReady self.old.comms.items self.old.links }
         ensures ready { OnOk result (AreReady self.new.comms.items self.new.links) }
@@ -138,7 +138,7 @@ impl World {
     }
 }
 
-// Puts what a rank keeps behind the other entries.
+// Appends what a rank keeps to the other entries.
 fn gather<'a>(shard: &'a Counting, entries: &mut Vec<(&'a [u8], u64)>) -> Result<(), AllocError>
     ensures { OnOk result (pairs_of entries.new.items ≡ pairs_of entries.old.items ++ shard.now) }
 {

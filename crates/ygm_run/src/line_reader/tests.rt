@@ -49,7 +49,7 @@ impl Source for Pieced<'_> {
     }
 }
 
-/// The lines of a text in pieces of a size, each with a bar behind it.
+/// The lines of a text in pieces of a size, each followed by a bar.
 fn barred(alloc: Global, text: &[u8], size: usize) -> Result<Vec<u8>, Fail> {
     let mut source = Pieced::new(text, size, 0);
     let mut reader = LineReader::new(alloc)?;

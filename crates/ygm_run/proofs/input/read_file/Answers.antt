@@ -1,11 +1,15 @@
-use Rattle.std.proofs.Common.{◌≡◌, None, ◌<◌, ◌^◌, ◌∙◌, [], false, length, refl, ap, sym, subst, arith}
+use Rattle.std.proofs.Common.{◌≡◌, None, ◌∙◌, [], false, refl, ap, sym, subst, arith}
 use Rattle.std.proofs.lemmas.Result.{err_from_is_err_and}
+use Rattle.std.proofs.lemmas.Option.{IfSome_then}
 use Rattle.ygm_run.specs.Fed.{EndedWith, Fed}
-use Rattle.ygm_run.specs.Inputs.{IsFull, good_lines}
-use Rattle.ygm_run.specs.Lines.{raw_lines}
+use Rattle.ygm_run.specs.Inputs.{IsFull}
 use Rattle.ygm_run.specs.Reading.{Reading}
 use Rattle.ygm_run.specs.Turns.{to_come}
-use Rattle.ygm_run.proofs.Feeding.{fed_nothing, not_ended, fed_more, from_start, was_read, rest_none, rest_more, full_so, told_so, many_good, all_sent_of}
+use Rattle.ygm_run.proofs.Fed.Steps.{fed_nothing, fed_more}
+use Rattle.ygm_run.proofs.Inputs.IsRead.{not_ended, was_read}
+use Rattle.ygm_run.proofs.Fed.LinesTaken.{from_start, all_sent_of}
+use Rattle.ygm_run.proofs.Inputs.IsRest.{rest_none, rest_more}
+use Rattle.ygm_run.proofs.Inputs.IsFull.{full_so, many_good}
 use Rattle.ygm_run.proofs.input.read_file.Goals as goal
 
 pub loop-fault-init : goal.loop-fault-init
@@ -32,11 +36,9 @@ returns-in_err-fault-clause-full g c =
     rw (p.1, p.2)
     (full_so _ (IsFull (g.S.Source.left c.args.source.now) (g.S.Source.faults c.take_turn.new.source)) _
     (λ limit at. record {
-      limit_is = at.0;
-      lines = told_so (λ bytes. length before.fed.raws < length (good_lines (raw_lines bytes))) (λ bytes. 2 ^ 56 < length (good_lines (raw_lines bytes))) (g.S.Source.left c.args.source.now)
-          (λ bytes more. omega (arith, more, at.1, before.sent, before.fed.given))
-          (many_good before.fed.raws (g.S.Source.left c.args.source.now) (to_come c.loop-fault.reader.held (g.S.Source.left c.loop-fault.source)) before.fed.short (from_start _ _ _ before.fed.taken) at.3);
-      no_read_failed = at.2 ∙ before.going_on (sym c.done.ensures ∙ c.loop-fault-test.true);
+      limit_is = at.limit_is;
+      lines = IfSome_then (g.S.Source.left c.args.source.now) (many_good before.fed.raws (g.S.Source.left c.args.source.now) (to_come c.loop-fault.reader.held (g.S.Source.left c.loop-fault.source)) before.fed.short (from_start _ _ _ before.fed.taken) at.line) (λ bytes more. omega (arith, more, at.many, before.sent, before.fed.given));
+      no_read_failed = at.no_read_failed ∙ before.going_on (sym c.done.ensures ∙ c.loop-fault-test.true);
     })
     now.full)
 
@@ -46,13 +48,13 @@ returns-in_err-fault-clause-rest g c = rest_more (g.S.Source.left c.args.source.
 pub loop-fault-preserved : goal.loop-fault-preserved
 loop-fault-preserved g c =
     let before = c.loop-fault.invariant in
-    let now = c.in_ok-fault.ensures in
+    let now = c.in_ok-fault.ensures.fed in
     let unfinished : c.loop-fault.reader.done ≡ false = sym c.done.ensures ∙ c.loop-fault-test.true in
     let step = subst (λ n. Fed n c.args.rank c.loop-fault.world.comms.items c.take_turn.new.world.comms.items c.loop-fault.world.links c.take_turn.new.world.links c.loop-fault.reader c.take_turn.new.reader (g.S.Source.left c.loop-fault.source) (g.S.Source.left c.take_turn.new.source)) before.ranks now.fed in
     record {
       ready = now.ready;
       fed = fed_more _ _ _ _ _ _ _ _ _ _ _ _ _ _ before.fed step;
-      ranks = now.ranks ∙ before.ranks;
+      ranks = c.take_turn.ensures.ranks ∙ before.ranks;
       sent = omega (arith, now.sent, before.sent);
       bound = omega (arith, now.bound (omega (arith, before.sent, before.bound)), now.sent, before.sent);
       going_on = λ e. now.going_on e ∙ before.going_on unfinished;

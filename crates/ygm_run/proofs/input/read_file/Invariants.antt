@@ -1,7 +1,8 @@
-use Rattle.std.proofs.Common.{◌≡◌, ◌≤◌, ◌^◌, ◌+◌, [], true, false, cond, get_or}
+use Rattle.std.proofs.Common.{◌≡◌, ◌≤◌, ◌+◌, [], true, false, cond, get_or}
 use Rattle.ygm_run.specs.Carried.{AreReady, sent_counts}
 use Rattle.ygm_run.specs.Fed.{EndedWith, Fed, turns_left}
 use Rattle.ygm_run.specs.Inputs.{IsRest, NothingBehind}
+use Rattle.ygm_run.specs.Limits.{most_letters}
 use Rattle.ygm_run.proofs.input.read_file.Given as goal
 
 -- lines were given to the world, as many as the rank has sent; where the reader is done, all of them before the fault
@@ -11,7 +12,7 @@ invariant-loop-fault g l = record {
   fed : Fed l.fn.world.ranks l.rank l.fn.world.comms.items l.world.comms.items l.fn.world.links l.world.links (record { held = []; given = 0; done = false }) l.reader (g.S.Source.left l.fn.source) (g.S.Source.left l.source);
   ranks : l.world.ranks ≡ l.fn.world.ranks;
   sent : get_or (sent_counts l.world.comms.items) l.rank 0 ≡ l.reader.given;
-  bound : l.reader.given ≤ 2 ^ 56;
+  bound : l.reader.given ≤ most_letters;
   going_on : l.reader.done ≡ false → g.S.Source.faults l.source ≡ 0;
   ended : l.reader.done ≡ true → EndedWith l.fault l.reader (g.S.Source.left l.source) 0 (g.S.Source.faults l.source);
   behind : NothingBehind g.S.Source.left g.S.Source.faults l.source l.fault;

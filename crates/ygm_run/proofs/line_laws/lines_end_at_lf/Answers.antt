@@ -1,4 +1,4 @@
-use Rattle.ygm_run.proofs.Cuts.{raw_lines-at_end, raw_lines-at_lf}
+use Rattle.ygm_run.proofs.Lines.RawLines.{raw_lines-at_end, raw_lines-at_lf}
 use Rattle.ygm_run.proofs.line_laws.lines_end_at_lf.Goals as goal
 
 pub returns-clause-at_lf : goal.returns-clause-at_lf

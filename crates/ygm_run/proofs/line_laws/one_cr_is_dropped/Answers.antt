@@ -1,6 +1,6 @@
 use Rattle.std.proofs.Common.{◌++◌, ◌∷◌, [], ap, cond, ◌∙◌}
 use Rattle.std.proofs.lemmas.Bool.{ne_eqb}
-use Rattle.ygm_run.proofs.Texts.{text_of-push}
+use Rattle.ygm_run.proofs.Lines.TextOf.{text_of-push}
 use Rattle.ygm_run.proofs.line_laws.one_cr_is_dropped.Goals as goal
 
 pub returns-clause-cr : goal.returns-clause-cr

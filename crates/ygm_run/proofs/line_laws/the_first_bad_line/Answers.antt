@@ -1,4 +1,5 @@
-use Rattle.ygm_run.proofs.FirstBad.{first_of_number, good_of_first, good_of_short, none_of_short, number_of_first, short_of_none}
+use Rattle.ygm_run.proofs.Lines.FirstTooLong.{first_of_number, none_of_short, number_of_first, short_of_none}
+use Rattle.ygm_run.proofs.Inputs.GoodLines.{good_of_first, good_of_short}
 use Rattle.ygm_run.proofs.line_laws.the_first_bad_line.Goals as goal
 
 pub returns-clause-number : goal.returns-clause-number

@@ -3,7 +3,7 @@ use Rattle.std.proofs.lemmas.Result.{IfOk-weaker}
 use Rattle.ygm_run.specs.declared.status.Status.TheVariants.{BadLine, CountFull}
 use Rattle.ygm_run.specs.Notes.{note_text, why_text}
 use Rattle.ygm_run.specs.Words.{texts_of}
-use Rattle.ygm_run.proofs.NoteLines.{bad_line_note, count_full_note}
+use Rattle.ygm_run.proofs.Notes.NoteLine.{bad_line_note, count_full_note}
 use Rattle.ygm_run.proofs.note.text_of.Goals as goal
 
 pub returns-in-BadLine : goal.returns-in-BadLine

@@ -1,4 +1,4 @@
-use Rattle.ygm_run.proofs.Texts.{text_without_cr, text_as_it_is}
+use Rattle.ygm_run.proofs.Lines.TextOf.{text_without_cr, text_as_it_is}
 use Rattle.ygm_run.proofs.pieces.text_len.Goals as goal
 
 pub returns-then-eq-clause-text : goal.returns-then-eq-clause-text

@@ -3,8 +3,8 @@ use Rattle.std.specs.Option.{option_map}
 use Rattle.std.specs.Result.{is_ok}
 use Rattle.std.proofs.lemmas.Option.{slice_get-map, slice_get_read}
 use Rattle.ygm_run.specs.Words.{texts_of}
-use Rattle.ygm_run.proofs.Endings.{opened_more}
-use Rattle.ygm_run.proofs.Members.{fresh_more}
+use Rattle.ygm_run.proofs.Ending.RunEnds.{opened_more}
+use Rattle.list_facts.proofs.Places.{each_item_more}
 use Rattle.ygm_run.proofs.running.open_all.Goals as goal
 
 pub loop-file-preserved : goal.loop-file-preserved
@@ -21,9 +21,9 @@ loop-file-preserved g c =
     let at : slice_get names k ≡ Some c.index-names-file.result = slice_get_read names (length names) k c.index-names-file.result refl lt c.index-names-file.is in
     let text = slice_get-map string_bytes names k ∙ ap (option_map string_bytes) at in
     record {
-      opened = opened_more left g.F.Src.Source.faults content (texts_of names) k old _ c.in-Ok.source (string_bytes c.index-names-file.result) pushed before.opened text (c.in-Ok.ensures.bytes ∙ before.same _ ∙ ap content c.as_str.ensures.value);
-      fresh = λ rank source found. fresh_more old c.in-Ok.source g.F.Src.Source.faults before.fresh c.in-Ok.ensures.fresh rank source (ap (λ w. slice_get w rank) (sym pushed) ∙ found);
+      opened = opened_more left g.F.Src.Source.faults content (texts_of names) k old _ c.in-Ok.source (string_bytes c.index-names-file.result) pushed before.opened text (c.in-Ok.ensures.opened.bytes ∙ before.same _ ∙ ap content c.as_str.ensures.value);
+      fresh = λ rank source found. each_item_more (λ (opened : _). g.F.Src.Source.faults opened ≡ 0) old c.in-Ok.source before.fresh c.in-Ok.ensures.opened.fresh rank source (ap (λ w. slice_get w rank) (sym pushed) ∙ found);
       count = ap length pushed ∙ length-append old (c.in-Ok.source ∷ []) ∙ ap (λ n. n + 1) before.count;
       same = λ name. c.in-Ok.ensures.same name ∙ before.same name;
-      stands = c.in-Ok.ensures.stands ∙ before.stands;
+      stands = c.in-Ok.ensures.opened.stands ∙ before.stands;
     }

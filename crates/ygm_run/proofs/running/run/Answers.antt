@@ -1,4 +1,4 @@
-use Rattle.ygm_run.proofs.Endings.{noted_under, run_complete, run_nothing_left, run_under}
+use Rattle.ygm_run.proofs.Ending.RunEnds.{noted_under, run_complete, run_nothing_left, run_under}
 use Rattle.ygm_run.proofs.running.run.Goals as goal
 
 pub returns-in-Ok-clause-nothing_left : goal.returns-in-Ok-clause-nothing_left

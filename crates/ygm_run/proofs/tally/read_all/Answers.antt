@@ -2,8 +2,8 @@ use Rattle.std.proofs.Common.{◌<◌, ◌∙◌, length, get_or, refl, ap, sym,
 use Rattle.std.specs.Option.{option_or}
 use Rattle.std.proofs.lemmas.Option.{slice_get-get_or}
 use Rattle.ygm_run.specs.Fed.{IsSent}
-use Rattle.ygm_run.proofs.Endings.{stops_full}
-use Rattle.ygm_run.proofs.Joining.{ReadSoFar, read_none, read_more, rests_more, unsent_so_far, all_read, all_sent, lowest_told, full_at}
+use Rattle.ygm_run.proofs.JobEnds.StopsBy.{stops_full}
+use Rattle.ygm_run.proofs.Inputs.ReadSoFar.{ReadSoFar, read_none, read_more, rests_more, unsent_so_far, all_read, all_sent, lowest_reported, full_at}
 use Rattle.ygm_run.proofs.tally.read_all.Goals as goal
 
 pub loop-rank-init : goal.loop-rank-init
@@ -66,5 +66,5 @@ returns-in-None-clause-read g c =
 pub returns-in-Some-clause-cause : goal.returns-in-Some-clause-cause
 returns-in-Some-clause-cause g c =
     let so = subst (ReadSoFar g.S.Source.left g.S.Source.faults c.args.world.now.ranks c.args.sources.now c.loop-rank.sources c.loop-rank.rank c.loop-rank.world.comms.items c.loop-rank.world.links) c.in-Some.is c.loop-rank.invariant.so in
-    lowest_told g.S.Source.left g.S.Source.faults c.args.world.now.ranks c.args.sources.now c.loop-rank.sources c.loop-rank.rank _ _ (c.in-Some.rank, c.in-Some.fault) (omega (arith, c.loop-rank.auto.sources, c.requires.all))
+    lowest_reported g.S.Source.left g.S.Source.faults c.args.world.now.ranks c.args.sources.now c.loop-rank.sources c.loop-rank.rank _ _ (c.in-Some.rank, c.in-Some.fault) (omega (arith, c.loop-rank.auto.sources, c.requires.all))
     (omega (arith, c.loop-rank-test.false, c.ranks-rank-end.ensures)) (omega (arith, c.loop-rank.auto.rank-end, c.ranks-rank-end.ensures)) so

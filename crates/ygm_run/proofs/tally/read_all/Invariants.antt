@@ -1,6 +1,6 @@
 use Rattle.std.proofs.Common.{◌≡◌}
 use Rattle.ygm_run.specs.Carried.{AreReady}
-use Rattle.ygm_run.proofs.Joining.{ReadSoFar}
+use Rattle.ygm_run.proofs.Inputs.ReadSoFar.{ReadSoFar}
 use Rattle.ygm_run.proofs.tally.read_all.Given as goal
 
 -- the files of the first ranks were read

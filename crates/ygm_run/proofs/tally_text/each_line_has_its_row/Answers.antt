@@ -1,5 +1,5 @@
-use Rattle.ygm_run.specs.Tally.{distinct_items}
-use Rattle.ygm_run.proofs.InOrder.{pairs_from_rises, Rises-distinct_items, Contains-distinct_items}
+use Rattle.ygm_run.specs.TallyText.{distinct_items}
+use Rattle.ygm_run.proofs.TallyText.DistinctItems.{pairs_from_rises, Rises-distinct_items, Contains-distinct_items}
 use Rattle.ygm_run.proofs.tally_text.each_line_has_its_row.Goals as goal
 
 pub returns-clause-rising : goal.returns-clause-rising

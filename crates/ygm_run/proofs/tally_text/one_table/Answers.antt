@@ -1,5 +1,5 @@
-use Rattle.ygm_run.proofs.InOrder.{rises_from_pairs}
-use Rattle.ygm_run.proofs.Table.{table_is_text}
+use Rattle.ygm_run.proofs.TallyText.DistinctItems.{rises_from_pairs}
+use Rattle.ygm_run.proofs.TallyText.Table.{table_is_text}
 use Rattle.ygm_run.proofs.tally_text.one_table.Goals as goal
 
 pub returns : goal.returns

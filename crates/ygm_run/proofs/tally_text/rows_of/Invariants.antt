@@ -1,5 +1,5 @@
 use Rattle.std.proofs.Common.{◌≡◌, take}
-use Rattle.ygm_run.specs.Tally.{pairs_of, tally_rows}
+use Rattle.ygm_run.specs.TallyText.{pairs_of, tally_rows}
 use Rattle.ygm_run.proofs.tally_text.rows_of.Given as goal
 
 -- the text so far is the rows of the entries so far

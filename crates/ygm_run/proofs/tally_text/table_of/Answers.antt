@@ -1,7 +1,7 @@
 use Rattle.std.proofs.Common.{◌≡◌, ℕ, List, IfOk, ap, ◌∙◌}
 use Rattle.std.proofs.lemmas.Result.{IfOk-weaker}
-use Rattle.ygm_run.specs.Tally.{AreCounts, IsTableOf, all_lines, pairs_of, tally_rows, tally_text}
-use Rattle.ygm_run.proofs.Table.{table_from_sort, table_of_counts}
+use Rattle.ygm_run.specs.TallyText.{AreCounts, IsTableOf, all_lines, pairs_of, tally_rows, tally_text}
+use Rattle.ygm_run.proofs.TallyText.Table.{table_from_sort, table_of_counts}
 use Rattle.ygm_run.proofs.tally_text.table_of.Goals as goal
 
 pub returns : goal.returns

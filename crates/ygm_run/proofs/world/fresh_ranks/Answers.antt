@@ -2,7 +2,7 @@ use Rattle.std.proofs.Common.{◌≡◌, ◌+◌, ◌^◌, ◌∷◌, [], ◌++�
 use Rattle.ygm_route.specs.declared.scheme.Scheme.TheVariants.{Direct}
 use Rattle.comm_rank.specs.Rank.{fresh_rank}
 use Rattle.ygm_run.specs.Carried.{AreFresh}
-use Rattle.ygm_run.proofs.Carrying.{fresh_more}
+use Rattle.ygm_run.proofs.Carried.Preserved.{fresh_more}
 use Rattle.ygm_run.proofs.world.fresh_ranks.Goals as goal
 
 pub loop-here-preserved : goal.loop-here-preserved

@@ -1,7 +1,7 @@
 use Rattle.std.proofs.Common.{◌++◌, ◌∷◌, [], take, ap, sym, ◌∙◌, append_assoc}
 use Rattle.std.proofs.lemmas.List.{map-append}
-use Rattle.world_core.proofs.Steps.{taken_more}
-use Rattle.ygm_run.specs.Tally.{pairs_of}
+use Rattle.list_facts.proofs.Steps.{taken_more}
+use Rattle.ygm_run.specs.TallyText.{pairs_of}
 use Rattle.ygm_run.proofs.world.gather.Goals as goal
 
 pub loop-k-preserved : goal.loop-k-preserved

@@ -1,5 +1,5 @@
 use Rattle.std.proofs.Common.{◌≡◌, ◌++◌, take}
-use Rattle.ygm_run.specs.Tally.{pairs_of}
+use Rattle.ygm_run.specs.TallyText.{pairs_of}
 use Rattle.ygm_run.proofs.world.gather.Given as goal
 
 -- the first entries of the shard are there

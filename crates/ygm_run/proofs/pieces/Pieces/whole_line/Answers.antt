@@ -1,6 +1,7 @@
 use Rattle.std.proofs.Common.{length, ◌∙◌, sym, arith, drop, ◌-◌}
 use Rattle.std.proofs.lemmas.List.{nil_from_length, length-take}
-use Rattle.ygm_run.proofs.Parts.{waiting_line, nothing_carried}
+use Rattle.std.proofs.lemmas.Grind.{common_steps}
+use Rattle.ygm_run.proofs.Held.StartsWithLine.{buffered_line, no_carry}
 use Rattle.ygm_run.proofs.pieces.Pieces.whole_line.Goals as goal
 
 pub returns-clause-line : goal.returns-clause-line
@@ -9,11 +10,14 @@ returns-clause-line c =
     let bytes = c.deref.result.now in
     let within = c.in-Some.ensures.within in
     let most = length-take (before.end - before.start) (drop before.start bytes) in
-    let none = nothing_carried (length before.carry.items) before.start before.end (λ some. c.requires.one_place (omega arith)) (omega (arith, within, most)) in
-    rw (sym c.deref.ensures.value) (waiting_line before.carry.items bytes c.in_ok-text.text.items before.start before.end c.in-Some.length
-    (nil_from_length before.carry.items none)
-    within
-    (omega arith)
-    c.in-Some.ensures.partial
-    c.in-Some.ensures.parts
-    (c.in_ok-text.ensures.items ∙ c.text_len.ensures.text))
+    let none = no_carry (length before.carry.items) before.start before.end (λ some. c.requires.one_place (omega arith)) (omega (arith, within, most)) in
+    record {
+      line = rw (sym c.deref.ensures.value) (buffered_line before.carry.items bytes c.in_ok-text.text.items before.start before.end c.in-Some.length
+          (nil_from_length before.carry.items none)
+          within
+          (omega arith)
+          c.in-Some.ensures.partial
+          c.in-Some.ensures.parts
+          (c.in_ok-text.ensures.items ∙ c.text_len.ensures.text));
+      bound = grind (arith, common_steps);
+    }

@@ -1,4 +1,4 @@
-use Rattle.ygm_run.proofs.Worlds.{line_settled}
+use Rattle.ygm_run.proofs.Carried.Calls.{line_settled}
 use Rattle.ygm_run.proofs.world.World.add_line.Goals.{then-sent_count-eq0+in_ok-settle, else-sent_count-eq0}
 use Rattle.ygm_run.proofs.world.World.add_line.Goals as goal
 

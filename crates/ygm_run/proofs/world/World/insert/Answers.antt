@@ -1,4 +1,4 @@
-use Rattle.ygm_run.proofs.Worlds.{going, insert_cause, line_sent}
+use Rattle.ygm_run.proofs.Carried.Calls.{going, insert_cause, line_sent}
 use Rattle.ygm_run.proofs.world.World.insert.Goals as goal
 
 pub count_insert-requires-clause-going : goal.count_insert-requires-clause-going

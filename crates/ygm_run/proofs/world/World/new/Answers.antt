@@ -1,5 +1,5 @@
 use Rattle.std.proofs.Common.{arith}
-use Rattle.ygm_run.proofs.Carrying.{carried_none, ready_at_first}
+use Rattle.ygm_run.proofs.Carried.Preserved.{carried_none, ready_at_first}
 use Rattle.ygm_run.proofs.world.World.new.Goals as goal
 
 pub returns-clause-ready : goal.returns-clause-ready

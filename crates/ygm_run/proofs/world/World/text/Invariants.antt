@@ -1,6 +1,6 @@
 use Rattle.std.proofs.Common.{◌≡◌, take}
 use Rattle.ygm_run.specs.Carried.{kept}
-use Rattle.ygm_run.specs.Tally.{pairs_of}
+use Rattle.ygm_run.specs.TallyText.{pairs_of}
 use Rattle.ygm_run.proofs.world.World.text.Given as goal
 
 -- what the first ranks keep is there

@@ -1,0 +1,5 @@
+pub mod AllCounted
+pub mod Calls
+pub mod LettersFrom
+pub mod LettersOf
+pub mod Preserved

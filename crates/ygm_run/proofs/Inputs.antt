@@ -1,0 +1,6 @@
+pub mod GoodLines
+pub mod IsFull
+pub mod IsRead
+pub mod IsRest
+pub mod LowestFault
+pub mod ReadSoFar
