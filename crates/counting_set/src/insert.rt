@@ -1,9 +1,9 @@
 //! Adding to a counting set from any rank.
-ghost use Rattle.std.specs.Prelude.{◌≡◌, ◌≢◌, ◌≤◌, [], ◌∷◌, ◌++◌, ℕ, List, false, length, IfErr, IsErr, OnOk, OnErr};
+ghost use Rattle.std.specs.Prelude.{◌≡◌, ◌≤◌, List, false, length, IfErr, IsErr, OnOk, OnErr};
 ghost use Rattle.world_core.specs.declared.entry.Entry.{Entry};
 ghost use Rattle.comm_rank.specs.Agrees.{Agrees};
 ghost use Rattle.comm_rank.specs.Fault.{IsFullAt, NeverStopped};
-ghost use Rattle.comm_rank.specs.Rank.{having_sent, sent_to};
+ghost use Rattle.comm_rank.specs.Rank.{HasSent};
 ghost use Rattle.counting_set.specs.Counting.{add_letter};
 ghost use Rattle.counting_set.specs.Owner as spec;
 
@@ -24,11 +24,7 @@ pub fn count_insert<H: Handler>(
 ) -> Result<(), CommFault>
     requires short { length item.now ≤ MAX_ITEM }
     requires going { comm.old.stopped ≡ false }
-    ensures sent { OnOk result ((log : List Entry) → sent_to comm.new log (spec.owner_of_key item.now comm.old.layout.ranks)
-        ≡ sent_to comm.old log (spec.owner_of_key item.now comm.old.layout.ranks)
-        ++ add_letter (spec.owner_of_key item.now comm.old.layout.ranks) comm.old.here item.now ∷ []) }
-    ensures others { (log : List Entry) (other : ℕ) → other ≢ spec.owner_of_key item.now comm.old.layout.ranks → sent_to comm.new log other ≡ sent_to comm.old log other }
-    ensures held { OnOk result (comm.new ≡ having_sent comm.old (add_letter (spec.owner_of_key item.now comm.old.layout.ranks) comm.old.here item.now)) }
+    ensures sent { OnOk result (HasSent comm.old comm.new (add_letter (spec.owner_of_key item.now comm.old.layout.ranks) comm.old.here item.now)) }
     ensures unchanged { OnErr result (comm.new ≡ comm.old) }
     ensures cause { IfErr result (IsFullAt comm.old.sent_count comm.old.most) }
     ensures full { comm.old.most ≤ comm.old.sent_count → IsErr result }
