@@ -5,6 +5,7 @@ use Rattle.std.proofs.lemmas.Bool.{cases_eq, cases_lt, false≢true}
 use Rattle.std.proofs.lemmas.Option.{slice_get-map, slice_get_read, get_or_from_slice_get}
 use Rattle.std.proofs.Math.Seq.{take-length}
 use Rattle.std.proofs.Math.ListN.{drop_of_length-le}
+use Rattle.list_facts.proofs.Places.{item_kept, item_placed, item_set}
 use Rattle.msg_codec.specs.declared.letter.Letter.{Letter}
 use Rattle.world_core.specs.declared.entry.Entry.{Entry}
 use Rattle.world_core.specs.Modest.{IsWorld}
@@ -15,13 +16,13 @@ use Rattle.comm_rank.specs.Agrees.{Agrees}
 use Rattle.comm_rank.specs.declared.fault.CommFault.{CommFault}
 use Rattle.comm_rank.specs.declared.fault.CommFault.TheVariants.{CountFull, NoMemory, Stopped}
 use Rattle.comm_rank.specs.Fault.{GivesIfFull, IfStopped, IsFullAt}
-use Rattle.comm_rank.specs.Rank.{Rank, having_sent, sent_to}
+use Rattle.comm_rank.specs.Rank.{HasSent, Rank}
 use Rattle.comm_rank.specs.Settled.{AreRanks, AreSameRanks, HasAdvanced, HasRun, IsRankOf}
-use Rattle.comm_rank.proofs.Moving.{item_kept, item_set}
+use Rattle.comm_rank.proofs.Rank.Sent.{sent_elsewhere, sent_there}
 use Rattle.counting_set.specs.Counting.{Counts, counting_apply, add_letter}
 use Rattle.counting_set.specs.Owner.{owner_of_key}
 use Rattle.ygm_run.specs.Carried.{AreReady, HasSettled, LineSent, sent_counts}
-use Rattle.ygm_run.proofs.Carried.Preserved.{SentLine, caller_quiet, carried_line, carried_settled, counts_none, placed, ready_settled, same_counts, stays_quiet}
+use Rattle.ygm_run.proofs.Carried.Preserved.{SentLine, caller_quiet, carried_line, carried_settled, counts_none, ready_settled, same_counts, stays_quiet}
 
 -- ---- a line is sent
 
@@ -46,7 +47,7 @@ module _ (n rank : ℕ) (comms : List (Rank Counts)) (links : Plain) (old now : 
       get_or_from_slice_get (sent_counts (set comms rank now)) rank now.sent_count 0
       (slice_get-map (λ (m : Rank Counts). m.sent_count) (set comms rank now) rank ∙ ap (option_map (λ (m : Rank Counts). m.sent_count)) (item_set comms rank now (omega (arith, lt, all))))
 
-  module _ (l : Letter) (held : now ≡ having_sent old l) where
+  module _ (held : now ≡ record old { sent_count = old.sent_count + 1; held = now.held }) where
     counted : now.sent_count ≡ old.sent_count + 1
     counted = ap (λ (r : Rank Counts). r.sent_count) held
 
@@ -64,12 +65,12 @@ module _ (n rank : ℕ) (comms : List (Rank Counts)) (links : Plain) (old now : 
           ranks = record {
             all = length-set comms rank now ∙ ready.ranks.all;
             each = λ r m e. elim (cases_eq r rank) [
-              | inl x ↦ subst (λ i. IsRankOf counting_apply (λ _. []) links i m) (sym x) (subst (IsRankOf counting_apply (λ _. []) links rank) (placed comms rank r m now x e) mine)
+              | inl x ↦ subst (λ i. IsRankOf counting_apply (λ _. []) links i m) (sym x) (subst (IsRankOf counting_apply (λ _. []) links rank) (item_placed comms rank r m now x e) mine)
               | inr x ↦ ready.ranks.each r m (sym (item_kept comms rank r now x) ∙ e)
             ];
           };
           most = λ r m e. elim (cases_eq r rank) [
-            | inl x ↦ sym (ap (λ (i : Rank Counts). i.most) (placed comms rank r m now x e)) ∙ ap (λ (i : Rank Counts). i.most) held ∙ ready.most rank old at
+            | inl x ↦ sym (ap (λ (i : Rank Counts). i.most) (item_placed comms rank r m now x e)) ∙ ap (λ (i : Rank Counts). i.most) held ∙ ready.most rank old at
             | inr x ↦ ready.most r m (sym (item_kept comms rank r now x) ∙ e)
           ];
           calm = ready.calm;
@@ -77,22 +78,24 @@ module _ (n rank : ℕ) (comms : List (Rank Counts)) (links : Plain) (old now : 
 
   -- a rank that sent the line's letter, and had room for it
   pub line_sent : (r : Result (Unit {0}) CommFault) (line : List ℕ) → length line ≤ 1000000
-      → OnOk r ((log : List Entry) → sent_to now log (owner_of_key line old.layout.ranks) ≡ sent_to old log (owner_of_key line old.layout.ranks) ++ add_letter (owner_of_key line old.layout.ranks) old.here line ∷ [])
-      → ((log : List Entry) (other : ℕ) → other ≢ owner_of_key line old.layout.ranks → sent_to now log other ≡ sent_to old log other)
-      → OnOk r (now ≡ having_sent old (add_letter (owner_of_key line old.layout.ranks) old.here line)) → (old.most ≤ old.sent_count → IsErr r)
+      → OnOk r (HasSent old now (add_letter (owner_of_key line old.layout.ranks) old.here line)) → (old.most ≤ old.sent_count → IsErr r)
       → ((log : List Entry) → Agrees counting_apply (λ _. []) old log → Agrees counting_apply (λ _. []) now log)
       → OnOk r (LineSent n rank line comms (set comms rank now) links links)
-  line_sent (Err e) line fits sent others held full keeps = tt
-  line_sent (Ok u) line fits sent others held full keeps =
+  line_sent (Err e) line fits sent full keeps = tt
+  line_sent (Ok u) line fits sent full keeps =
       let l = add_letter (owner_of_key line old.layout.ranks) old.here line in
-      let one : SentLine old.layout.ranks old.here line old now = record { to_owner = sent; to_others = others; counted = counted l held } in
+      let one : SentLine old.layout.ranks old.here line old now = record {
+        to_owner = λ log. sent_there old now l log refl refl sent;
+        to_others = λ log other ne. sent_elsewhere old now l log other ne sent;
+        counted = counted sent.rank;
+      } in
       let one' : SentLine n rank line old now = subst (λ k. SentLine k rank line old now) ranks_of (subst (λ i. SentLine old.layout.ranks i line old now) was.here one) in
       let room : old.sent_count < 2 ^ 56 = elim (cases_lt old.sent_count old.most) [ inl below ↦ omega (arith, below, ready.most rank old at) | inr above ↦ absurd (false≢true (full above)) ] in
-      let few : now.sent_count ≤ 2 ^ 56 = omega (arith, counted l held, room) in
+      let few : now.sent_count ≤ 2 ^ 56 = omega (arith, counted sent.rank, room) in
       record {
-        ready = ready_after l held keeps;
+        ready = ready_after sent.rank keeps;
         carried = λ own c. carried_line own n rank comms links line old now c at one' few fits;
-        counted = count_after ∙ counted l held ∙ ap (λ k. k + 1) (sym count_before);
+        counted = count_after ∙ counted sent.rank ∙ ap (λ k. k + 1) (sym count_before);
         bound = omega (arith, count_after, few);
       }
 

@@ -5,39 +5,30 @@ use Rattle.std.proofs.lemmas.List.Elements.{filter-append}
 use Rattle.std.proofs.lemmas.Bool.{cases_eq, cases_lt, eq-eqb, ne_eqb}
 use Rattle.std.proofs.lemmas.Option.{slice_get_within}
 use Rattle.std.specs.List.{AllByRecursion, filter, list_any}
+use Rattle.list_facts.specs.Prefix.{IsPrefix}
+use Rattle.list_facts.proofs.Places.{item_at_end, item_kept, item_left, item_placed, item_there, same_item}
+use Rattle.list_facts.proofs.Prefix.{prefix_both_ways}
+use Rattle.list_facts.proofs.Tests.{none_raised}
 use Rattle.ygm_route.specs.declared.scheme.Scheme.TheVariants.{Direct}
 use Rattle.ygm_route.specs.Layout.{Shape}
 use Rattle.world_core.specs.declared.entry.Entry.{Entry}
 use Rattle.world_core.specs.Pairs.{of_pair}
 use Rattle.world_core.specs.Plain.{Plain, fresh_links, is_stopped, told_by}
 use Rattle.world_core.specs.Post.{SameStops}
-use Rattle.world_core.specs.Sound.{IsPrefix, IsSound}
+use Rattle.world_core.specs.Sound.{IsSound}
 use Rattle.world_core.specs.World.{log_of}
-use Rattle.world_core.proofs.Alone.{slice_get_end, slice_get_left}
 use Rattle.comm_rank.specs.Fold.{handed_from}
 use Rattle.comm_rank.specs.Rank.{Rank, fresh_rank, ran_at, ran_from, sent_to}
 use Rattle.comm_rank.specs.Settled.{AreRanks, AreSameRanks, HasAdvanced, HasRun}
-use Rattle.comm_rank.proofs.Advancing.{item_there, same_item}
-use Rattle.comm_rank.proofs.Moving.{item_kept, item_set}
-use Rattle.comm_rank.proofs.Sending.{agrees_fresh, no_letters}
-use Rattle.comm_rank.proofs.Settling.{ran_begins_always}
-use Rattle.comm_rank.proofs.Stops.{same_stopped}
+use Rattle.comm_rank.proofs.Agrees.Fresh.{agrees_fresh, no_letters}
+use Rattle.comm_rank.proofs.Settled.HasRun.{ran_begins_always}
+use Rattle.comm_rank.proofs.Settled.Stops.{same_stopped}
 use Rattle.counting_set.specs.Counting.{Counts, counting_apply, add_letter}
 use Rattle.counting_set.specs.Owner.{owner_of_key}
 use Rattle.counting_set.proofs.Counts.After.{handed-none}
 use Rattle.ygm_run.specs.Carried.{AreFresh, AreReady, Carried, IsQuietFrom, letters_of, sent_counts, with_line}
 
--- the element at the place that was changed
-pub placed : {X : Type 0} (xs : List X) (k r : ℕ) (x y : X) → r ≡ k → slice_get (set xs k y) r ≡ Some x → y ≡ x
-placed xs k r x y is at =
-    let there = subst (λ i. slice_get (set xs k y) i ≡ Some x) is at in
-    same_item (set xs k y) k y x (item_set xs k y (omega (arith, slice_get_within (set xs k y) k x there, length-set xs k y))) there
-
 -- ---- the start
-
-none_raised : (n : ℕ) → list_any (λ raised. raised) (replicate n false) ≡ false
-none_raised zero = refl
-none_raised (suc n) = none_raised n
 
 module _ (layout : Shape) (ring batches : ℕ) (comms : List (Rank Counts)) (links : Plain) (all : length comms ≡ layout.ranks) (fresh : AreFresh layout comms) (none : links ≡ fresh_links layout Direct ring batches) where
   no_log : (rank : ℕ) (me : Rank Counts) → slice_get comms rank ≡ Some me → log_of links.world rank ≡ []
@@ -77,11 +68,11 @@ module _ (layout : Shape) (ring batches : ℕ) (comms : List (Rank Counts)) (lin
 -- one fresh rank more
 pub fresh_more : (layout : Shape) (comms : List (Rank Counts)) (me : Rank Counts) → AreFresh layout comms → me ≡ fresh_rank layout Direct (length comms) (2 ^ 56) [] → AreFresh layout (comms ++ me ∷ [])
 fresh_more layout comms me fresh last rank found e = elim (cases_lt rank (length comms)) [
-  | inl lt ↦ fresh rank found (sym (slice_get_left comms (me ∷ []) rank lt) ∙ e)
+  | inl lt ↦ fresh rank found (sym (item_left comms (me ∷ []) rank lt) ∙ e)
   | inr le ↦
       let within = slice_get_within (comms ++ me ∷ []) rank found e in
       let here : rank ≡ length comms = omega (arith, le, within, length-append comms (me ∷ [])) in
-      let same : me ≡ found = same_item (comms ++ me ∷ []) (length comms) me found (slice_get_end comms me) (subst (λ k. slice_get (comms ++ me ∷ []) k ≡ Some found) here e) in
+      let same : me ≡ found = same_item (comms ++ me ∷ []) (length comms) me found (item_at_end comms me []) (subst (λ k. slice_get (comms ++ me ∷ []) k ≡ Some found) here e) in
       sym same ∙ last ∙ ap (λ k. fresh_rank layout Direct k (2 ^ 56) []) (sym here)
 ]
 
@@ -136,14 +127,14 @@ module _ (own : ℕ → List (List ℕ)) (n s : ℕ) (comms : List (Rank Counts)
     all = length-set comms s now ∙ c.all;
     counted = λ r m e. elim (cases_eq r s) [
       | inl x ↦
-          let is : now ≡ m = placed comms s r m now x e in
+          let is : now ≡ m = item_placed comms s r m now x e in
           let size : length (with_line own s line r) ≡ length (own s) + 1 = ap length (with_line-same own s r line x) ∙ length-append (own r) (line ∷ []) ∙ ap (λ i. length (own i) + 1) x in
           omega (arith, ap (λ (i : Rank Counts). i.sent_count) is, one.counted, c.counted s me at, size)
       | inr x ↦ c.counted r m (sym (item_kept comms s r now x) ∙ e) ∙ ap length (sym (with_line-other own s r line x))
     ];
     sent = λ r to m t e. elim (cases_eq r s) [
       | inl x ↦
-          let is : now ≡ m = placed comms s r m now x e in
+          let is : now ≡ m = item_placed comms s r m now x e in
           let here : sent_to m (log_of links.world s) to ≡ letters_of n s to (own s ++ line ∷ []) = subst (λ (i : Rank Counts). sent_to i (log_of links.world s) to ≡ letters_of n s to (own s ++ line ∷ [])) is (letters_more to t) in
           subst (λ i. sent_to m (log_of links.world i) to ≡ letters_of n i to (with_line own s line i)) (sym x) (here ∙ ap (letters_of n s to) (sym (with_line-same own s s line refl)))
       | inr x ↦ c.sent r to m t (sym (item_kept comms s r now x) ∙ e) ∙ ap (letters_of n r to) (sym (with_line-other own s r line x))
@@ -203,14 +194,7 @@ module _ (comms after : List (Rank Counts)) (old new : Plain) (same : length aft
       let m = (ranks.each to me t).here in
       let begins : IsPrefix (ran_from me (log_of new.world to) from) (sent_to sender (log_of new.world from) to) =
       rw (sym s, sym m) (ran_begins_always new.world sender me sound) in
-      both_ways (ran_from me (log_of new.world to) from) (sent_to sender (log_of new.world from) to) begins ran where
-        none_more : {X : Type 0} (xs rest : List X) → length (xs ++ rest) ≤ length xs → xs ≡ xs ++ rest
-        none_more xs [] le = sym (append-nil xs)
-        none_more xs (x ∷ rest) le = absurd (omega (arith, le, length-append xs (x ∷ rest)))
-
-        both_ways : {X : Type 0} (xs ys : List X) → IsPrefix xs ys → IsPrefix ys xs → xs ≡ ys
-        both_ways xs ys (rest, is) (more, si) =
-            none_more xs rest (omega (arith, ap length is, ap length si, length-append ys more)) ∙ is
+      prefix_both_ways begins ran
 
   -- the caller of a weak barrier is quiet afterwards
   pub caller_quiet : (caller : ℕ) → IsSound new.world → AreRanks counting_apply (λ _. []) after new → HasRun comms after old new caller → IsQuietFrom after new caller
@@ -230,7 +214,7 @@ module _ (comms after : List (Rank Counts)) (old new : Plain) (same : length aft
       ap (λ k. of_pair from k (ran_at m.0 (log_of old.world to)) ++ of_pair from me.here ran.0) one_here
       ∙ sym (filter-append _ (ran_at m.0 (log_of old.world to)) ran.0) ∙ ap (of_pair from me.here) (sym ran.1.ran) in
       all_ran sound ranks from to sender me f t
-      (of_pair from me.here ran.0, ap (λ w. w ++ of_pair from me.here ran.0) (sends_none from to b.0 sender b.1 f ∙ sym (quiet to b.0 m.0 b.1 m.1)) ∙ more)
+      (record { rest = of_pair from me.here ran.0; joined = ap (λ w. w ++ of_pair from me.here ran.0) (sends_none from to b.0 sender b.1 f ∙ sym (quiet to b.0 m.0 b.1 m.1)) ∙ more })
 
 -- where letters ran, each rank has sent as many as before
 pub same_counts : (comms after : List (Rank Counts)) → length after ≡ length comms → ((r : ℕ) (b a : Rank Counts) → slice_get comms r ≡ Some b → slice_get after r ≡ Some a → a.sent_count ≡ b.sent_count) → sent_counts after ≡ sent_counts comms

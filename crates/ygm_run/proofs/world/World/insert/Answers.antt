@@ -11,7 +11,7 @@ returns-clause-sent c =
     let world = c.args.self.now in
     let did = c.count_insert.ensures in
     line_sent world.ranks c.args.rank world.comms.items world.links c.index_mut.result.now c.count_insert.new.comm world.one_each c.requires.below c.requires.ready c.index_mut.ensures.value
-    c.count_insert.result c.args.line.now c.requires.short did.sent did.others did.held did.full did.agrees
+    c.count_insert.result c.args.line.now c.requires.short did.sent did.full did.agrees
 
 pub returns-clause-cause : goal.returns-clause-cause
 returns-clause-cause c =
