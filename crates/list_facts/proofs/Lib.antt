@@ -1,5 +1,7 @@
+pub mod Cuts
 pub mod Distinct
 pub mod Elements
+pub mod Equal
 pub mod Fields
 pub mod Filters
 pub mod Members

@@ -1,9 +1,12 @@
--- The laws of the faults of reading: a spelling that is cut is short, what is short is so for want of bytes, and what is too long stays so.
-use Rattle.std.proofs.Common.{◌≡◌, ◌≢◌, ℕ, ◌+◌, ◌^◌, ◌<◌, ◌≤◌, Bool, true, false, cond, ltb, List, [], ◌∷◌, ◌++◌, length, take, drop, Result, Ok, Err, refl, sym, ap, ◌∙◌, append_assoc, arith, replicate, length-append, length-drop, ◌⊎◌, inl, inr}
+-- The laws of the faults of decoding: an encoding that is cut is too short, bytes are too short only where more would help, and what is
+-- too long stays so.
+use Rattle.std.proofs.Common.{◌≡◌, ◌≢◌, ℕ, ◌+◌, ◌^◌, ◌<◌, ◌≤◌, Bool, true, false, cond, ltb, List, [], ◌++◌, length, take, drop, Result, Ok, Err, refl, sym, ap, ◌∙◌, append_assoc, arith, replicate, length-append, length-drop, ◌⊎◌, inl, inr}
 use Rattle.std.specs.Int.{w32, w64, from_le_bytes}
 use Rattle.std.proofs.lemmas.Bool.{cases_lt, ltb-false, le-ltb, lt-ltb}
-use Rattle.std.proofs.lemmas.List.{append-nil, length-replicate, take_at, drop_at, length-take, take-append-drop, take-append-le, drop-append-le}
+use Rattle.std.proofs.lemmas.List.{append-nil, length-replicate, length-take, take-append-drop, take-append-le, drop-append-le}
 use Rattle.std.proofs.lemmas.List.Elements.{All-drop, All-append, All-replicate}
+use Rattle.list_facts.proofs.Cuts.{cut_first, cut_second, shorter_part, some_dropped}
+use Rattle.list_facts.proofs.Outcomes.{ok_or_err}
 use Rattle.msg_codec.specs.declared.wire.WireFault.{WireFault}
 use Rattle.msg_codec.specs.declared.wire.WireFault.TheVariants.{Short, TooLong, NoMemory}
 use Rattle.msg_codec.specs.Bytes.{AreBytes}
@@ -13,14 +16,10 @@ use Rattle.msg_codec.specs.Spelling.{spelled_number, spelled_body}
 
 -- ---- short
 
-cut_length : (all front back : List ℕ) → all ≡ front ++ back → back ≢ [] → length front < length all
-cut_length all front [] e ne = absurd (ne refl)
-cut_length all front (b ∷ back) e ne = omega (arith, ap length e, length-append front (b ∷ back))
-
 pub number_cut : (n : ℕ) (front back : List ℕ) → spelled_number n ≡ front ++ back → back ≢ [] → number_reading front ≡ Err Short
 unfolding number_reading
 number_cut n front back e ne =
-    let cut : ltb (length front) 8 ≡ true = lt-ltb _ _ (cut_length (spelled_number n) front back e ne) in
+    let cut : ltb (length front) 8 ≡ true = lt-ltb _ _ (shorter_part (spelled_number n) front back e ne) in
     rw cut refl
 
 told_front : (front back : List ℕ) → 4 ≤ length front → told (front ++ back) ≡ told front
@@ -36,20 +35,9 @@ body_cut body front back short e ne =
           let is : told front ≡ length body = sym (told_front front back le) ∙ ap told (sym e ∙ sym (append-nil (spelled_body body))) ∙ told_is body [] short in
           let four : ltb (length front) 4 ≡ false = le-ltb _ _ le in
           let most : ltb 1048576 (length body) ≡ false = le-ltb _ _ short in
-          let cut : ltb (length (drop 4 front)) (length body) ≡ true = lt-ltb _ _ (omega (arith, length-drop 4 front, cut_length (spelled_body body) front back e ne)) in
+          let cut : ltb (length (drop 4 front)) (length body) ≡ true = lt-ltb _ _ (omega (arith, length-drop 4 front, shorter_part (spelled_body body) front back e ne)) in
           rw (four, is, most, cut) refl
     ]
-
-some_left : (xs : List ℕ) (k : ℕ) → k < length xs → drop k xs ≢ []
-some_left xs k lt e = omega (arith, lt, length-drop k xs, ap length e)
-
-front_is : (s t front back : List ℕ) → s ++ t ≡ front ++ back → length front ≤ length s → s ≡ front ++ drop (length front) s
-front_is s t front back e le =
-    let same : take (length front) s ≡ front = sym (take-append-le (length front) s t le) ∙ ap (take (length front)) e ∙ take_at front back (length front) refl in
-    sym (take-append-drop (length front) s) ∙ ap (λ x. x ++ drop (length front) s) same
-
-back_is : (s t front back : List ℕ) → s ++ t ≡ front ++ back → length s ≤ length front → t ≡ drop (length s) front ++ back
-back_is s t front back e le = sym (drop_at s t (length s) refl) ∙ ap (drop (length s)) e ∙ drop-append-le (length s) front back le
 
 pub pair_cut : {A B : Type 0} (first : List ℕ → Result (A × ℕ) WireFault) (second : List ℕ → Result (B × ℕ) WireFault) (a : A) (s t front back : List ℕ)
     → ((x y : List ℕ) → s ≡ x ++ y → y ≢ [] → first x ≡ Err Short) → ((x y : List ℕ) → t ≡ x ++ y → y ≢ [] → second x ≡ Err Short)
@@ -57,11 +45,11 @@ pub pair_cut : {A B : Type 0} (first : List ℕ → Result (A × ℕ) WireFault)
 unfolding pair_reading
 pair_cut first second a s t front back one two again e ne =
     elim (cases_lt (length front) (length s)) [
-      | inl lt ↦ rw (one front (drop (length front) s) (front_is s t front back e (omega (arith, lt))) (some_left s (length front) lt)) refl
+      | inl lt ↦ rw (one front (drop (length front) s) (cut_first s t front back e (omega (arith, lt))) (some_dropped s (length front) lt)) refl
       | inr le ↦
           let rest = drop (length s) front in
-          let read : first front ≡ Ok (a, length s) = ap first (front_is front back s t (sym e) le) ∙ again rest in
-          rw (read, two rest back (back_is s t front back e le) ne) refl
+          let read : first front ≡ Ok (a, length s) = ap first (cut_first front back s t (sym e) le) ∙ again rest in
+          rw (read, two rest back (cut_second s t front back e le) ne) refl
     ]
 
 -- ---- too long
@@ -97,7 +85,7 @@ second_err : {A C : Type 0} (r : Result A WireFault) (f : A → C) (d : WireFaul
 second_err (Ok x) f d e = absurd cc
 second_err (Err c) f d e = let same : c ≡ d = cc in ap (λ z. Err z) same
 
--- What was read is read again, whatever follows.
+-- What was decoded is decoded again, whatever follows.
 stays : {A : Type 0} (first : List ℕ → Result (A × ℕ) WireFault) (P : A → Type 0) (s : A → List ℕ)
     → ((a : A) (rest : List ℕ) → P a → first (s a ++ rest) ≡ Ok (a, length (s a)))
     → (bytes more : List ℕ) (x : A × ℕ) → first bytes ≡ Ok x → P x.0 × (take x.1 bytes ≡ s x.0) × (x.1 ≤ length bytes) → first (bytes ++ more) ≡ Ok x
@@ -125,9 +113,9 @@ pair_long first second P s one two again spelled bytes more fit e =
           rw (read, drop-append-le x.1 bytes more is.2, two rest more (All-drop (λ b. b < 2 ^ 8) x.1 bytes fit) long) refl
     ]
 
--- ---- short for want of bytes
+-- ---- short where more would help
 
--- more bytes after which what is read is short no more
+-- more bytes with which they aren't too short
 abbrev Ends : {A : Type 0} → (List ℕ → Result A WireFault) → List ℕ → Type 0
 Ends reading bytes = (more : List ℕ) × AreBytes more × (reading (bytes ++ more) ≢ Err Short)
 
@@ -151,7 +139,7 @@ body_whole false true all y is fits e = cc
 body_whole false false true y is fits e = let all : true ≡ false = fits refl in cc
 body_whole false false false y is fits e = cc
 
--- As many bytes as the longest body takes are enough, whatever its length field tells.
+-- As many bytes as the longest body has are enough, whatever its length field says.
 pub body_wants : (bytes : List ℕ) → AreBytes bytes → body_reading bytes ≡ Err Short → Ends body_reading bytes
 unfolding body_reading
 body_wants bytes fit e =
@@ -168,10 +156,6 @@ short_or (Err Short) = inl refl
 short_or (Err TooLong) = inr (λ e. cc)
 short_or (Err NoMemory) = inr (λ e. cc)
 
-ok_or : {A : Type 0} (r : Result A WireFault) → ((x : A) × (r ≡ Ok x)) ⊎ ((d : WireFault) × (r ≡ Err d))
-ok_or (Ok x) = inl (x, refl)
-ok_or (Err d) = inr (d, refl)
-
 -- What isn't short needs no more.
 ends : {A : Type 0} (reading : List ℕ → Result A WireFault) → ((bytes : List ℕ) → AreBytes bytes → reading bytes ≡ Err Short → Ends reading bytes)
     → (bytes : List ℕ) → AreBytes bytes → Ends reading bytes
@@ -181,7 +165,7 @@ ends reading wants bytes fit =
       | inr other ↦ ([], All-replicate (λ b. b < 2 ^ 8) 0 0 (omega arith), rw (append-nil bytes) other)
     ]
 
--- Where the first is read, what the second wants is enough.
+-- Where the first is decoded, what helps the second is enough.
 second_ends : {A B : Type 0} (first : List ℕ → Result (A × ℕ) WireFault) (second : List ℕ → Result (B × ℕ) WireFault) (P : A → Type 0) (s : A → List ℕ)
     → ((bytes : List ℕ) → AreBytes bytes → second bytes ≡ Err Short → Ends second bytes)
     → ((a : A) (rest : List ℕ) → P a → first (s a ++ rest) ≡ Ok (a, length (s a)))
@@ -193,7 +177,7 @@ second_ends first second P s two again bytes x fit at is =
     let read : first (bytes ++ end.0) ≡ Ok x = stays first P s again bytes end.0 x at is in
     (end.0, end.1, rw (read, drop-append-le x.1 bytes end.0 is.2) (λ short. end.2 (second_err (second (rest ++ end.0)) (λ b. ((x.0, b.0), x.1 + b.1)) Short short)))
 
--- First what the first wants, and then what the second wants behind it.
+-- First what helps the first, and then what helps the second.
 pub pair_wants : {A B : Type 0} (first : List ℕ → Result (A × ℕ) WireFault) (second : List ℕ → Result (B × ℕ) WireFault) (P : A → Type 0) (s : A → List ℕ)
     → ((bytes : List ℕ) → AreBytes bytes → first bytes ≡ Err Short → Ends first bytes)
     → ((bytes : List ℕ) → AreBytes bytes → second bytes ≡ Err Short → Ends second bytes)
@@ -205,7 +189,7 @@ pair_wants first second P s one two again spelled bytes fit e =
     let front = ends first one bytes fit in
     let longer = bytes ++ front.0 in
     let fits : AreBytes longer = All-append (λ b. b < 2 ^ 8) bytes front.0 fit front.1 in
-    elim (ok_or (first longer)) [
+    elim (ok_or_err (first longer)) [
       | inl (x, at) ↦
           let back = second_ends first second P s two again longer x fits at (spelled longer x.0 x.1 fits at) in
           (front.0 ++ back.0, All-append (λ b. b < 2 ^ 8) front.0 back.0 front.1 back.1, rw (← append_assoc bytes front.0 back.0) back.2)

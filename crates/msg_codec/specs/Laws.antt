@@ -1,19 +1,19 @@
--- The laws of the spellings: what was spelled is read again, and what is read is spelled so.
-use Rattle.std.proofs.Common.{◌≡◌, lit<, ℕ, ◌+◌, ◌^◌, ◌<◌, ◌≤◌, Bool, true, false, cond, ltb, eqb, Some, None, List, [], ◌++◌, length, get_or, take, drop, Result, Ok, Err, refl, sym, ap, subst, ◌∙◌, append_assoc, arith, eq-eqb, length-append, length-drop, inl, inr}
+-- The laws of the encodings: what was encoded is decoded again, and what is decoded was encoded so.
+use Rattle.std.proofs.Common.{◌≡◌, lit<, ℕ, ◌+◌, ◌^◌, ◌<◌, ◌≤◌, Bool, true, false, cond, ltb, eqb, Some, None, List, ◌++◌, length, get_or, take, drop, Result, Ok, Err, refl, sym, subst, ◌∙◌, append_assoc, arith, eq-eqb, length-append, length-drop, inl, inr}
 use Rattle.std.specs.Int.{w32, w64, to_le_bytes, from_le_bytes}
 use Rattle.std.proofs.lemmas.Bool.{eqb-true, cases_lt, ltb-false, le-ltb}
-use Rattle.std.proofs.lemmas.List.{append-nil, take_at, drop_at, length-take, get_or-take, get_or_past}
+use Rattle.std.proofs.lemmas.List.{take_at, drop_at, length-take, get_or-take, get_or_past}
 use Rattle.std.proofs.lemmas.List.Elements.{All-take, All-drop}
-use Rattle.std.proofs.Math.Seq.{take-add, take-length}
+use Rattle.std.proofs.Math.Seq.{take-add}
 use Rattle.std.proofs.lemmas.Nat.{le_bytes_4, le_bytes_8, from_le_bytes-to_le_bytes_4, from_le_bytes-to_le_bytes_8}
+use Rattle.list_facts.proofs.Outcomes.{guard_ok, same_ok}
 use Rattle.msg_codec.specs.declared.wire.WireFault.{WireFault}
 use Rattle.msg_codec.specs.declared.wire.WireFault.TheVariants.{Short, TooLong}
 use Rattle.msg_codec.specs.Bytes.{AreBytes}
 use Rattle.msg_codec.specs.Reading.{◌>>=◌, number_reading, told, body_reading, pair_reading, if_whole, whole}
-use Rattle.msg_codec.specs.ItemCount.{spelled_item_count, item_count_of}
 use Rattle.msg_codec.specs.Spelling.{spelled_number, spelled_body}
 
--- past the end stands 0, which is a byte too
+-- past the end `get_or` gives 0, which is a byte too
 each_byte : (bytes : List ℕ) → AreBytes bytes → (i : ℕ) → get_or bytes i 0 < 256
 each_byte bytes fit i =
     elim (cases_lt i (length bytes)) [
@@ -21,21 +21,10 @@ each_byte bytes fit i =
       | inr le ↦ rw (get_or_past bytes i 0 le) (omega arith)
     ]
 
--- the value of a step that did not fail
+-- the value of a step that didn't fail
 bind_ok : {A B : Type 0} (r : Result A WireFault) (f : A → Result B WireFault) (y : B) → (r >>= f) ≡ Ok y → (x : A) × (r ≡ Ok x) × (f x ≡ Ok y)
 bind_ok (Ok x) f y e = (x, refl, e)
 bind_ok (Err d) f y e = absurd cc
-
--- a test that did not fail
-guard_ok : {A : Type 0} (b : Bool) (d : WireFault) (r : Result A WireFault) (y : A) → cond b (Err d) r ≡ Ok y → (b ≡ false) × (r ≡ Ok y)
-guard_ok true d r y e = absurd cc
-guard_ok false d r y e = (refl, e)
-
-abbrev done : {A : Type 0} → A → Result A WireFault
-done x = Ok x
-
-ok_is : {A : Type 0} (x y : A) → done x ≡ done y → x ≡ y
-ok_is x y e = cc
 
 abbrev found : {A : Type 0} → A → ℕ → Result (A × ℕ) WireFault
 found x len = Ok (x, len)
@@ -68,7 +57,7 @@ unfolding number_reading
 number_spelled bytes n len fit e =
     let g = guard_ok (ltb (length bytes) 8) Short (Ok (from_le_bytes w64 bytes, 8)) (n, len) e in
     let long : 8 ≤ length bytes = ltb-false _ _ g.0 in
-    let same = ok_is (from_le_bytes w64 bytes, 8) (n, len) g.1 in
+    let same = same_ok _ (from_le_bytes w64 bytes, 8) (n, len) refl g.1 in
     let each = each_byte bytes fit in
     let front = each_byte (take 8 bytes) (All-take (λ b. b < 2 ^ 8) 8 bytes fit) in
     let below : from_le_bytes w64 bytes < 2 ^ 64 = omega (arith, each 0, each 1, each 2, each 3, each 4, each 5, each 6, each 7) in
@@ -104,7 +93,7 @@ body_spelled bytes body len fit e =
     let four : 4 ≤ length bytes = ltb-false _ _ a.0 in
     let most : n ≤ 1048576 = ltb-false _ _ b.0 in
     let whole : n ≤ length rest = ltb-false _ _ d.0 in
-    let same = ok_is (take n rest, 4 + n) (body, len) d.1 in
+    let same = same_ok _ (take n rest, 4 + n) (body, len) refl d.1 in
     let size : length (take n rest) ≡ n = omega (arith, length-take n rest) in
     let front = each_byte (take 4 bytes) (All-take (λ b. b < 2 ^ 8) 4 bytes fit) in
     let field : take 4 bytes ≡ to_le_bytes w32 n = sym (le_bytes_4 (take 4 bytes) n (omega (arith, length-take 4 bytes)) front (front_4 bytes)) in
@@ -126,7 +115,7 @@ pair_parts : {A B : Type 0} (P : A → Type 0) (Q : B → Type 0) (s : A → Lis
     → (P pair.0 × Q pair.1) × (take len bytes ≡ s pair.0 ++ t pair.1) × (len ≤ length bytes)
 pair_parts {A} {B} P Q s t bytes a b m n pair len p q e =
     let spelled : take (m + n) bytes ≡ s a ++ t b = take-add m n bytes ∙ rw (p.1, q.1) refl in
-    subst (λ (x : (A × B) × ℕ). (P x.0.0 × Q x.0.1) × (take x.1 bytes ≡ s x.0.0 ++ t x.0.1) × (x.1 ≤ length bytes)) (ok_is ((a, b), m + n) (pair, len) e) ((p.0, q.0), spelled, omega (arith, p.2, q.2, length-drop m bytes))
+    subst (λ (x : (A × B) × ℕ). (P x.0.0 × Q x.0.1) × (take x.1 bytes ≡ s x.0.0 ++ t x.0.1) × (x.1 ≤ length bytes)) (same_ok _ ((a, b), m + n) (pair, len) refl e) ((p.0, q.0), spelled, omega (arith, p.2, q.2, length-drop m bytes))
 
 pub pair_spelled : {A B : Type 0} (first : List ℕ → Result (A × ℕ) WireFault) (second : List ℕ → Result (B × ℕ) WireFault) (P : A → Type 0) (Q : B → Type 0) (s : A → List ℕ) (t : B → List ℕ)
     → ((bytes : List ℕ) (a : A) (len : ℕ) → AreBytes bytes → first bytes ≡ Ok (a, len) → P a × (take len bytes ≡ s a) × (len ≤ length bytes))
@@ -146,24 +135,9 @@ if_whole_some : {A : Type 0} (len : ℕ) (r : Result (A × ℕ) WireFault) (v : 
 if_whole_some len (Ok (x, i)) v e = some_if (eqb i len) x v i len refl e
 if_whole_some len (Err d) v e = absurd cc
 
--- What is found in all of the bytes is read from their front, and nothing is left.
+-- What all of the bytes encode is decoded from their beginning, and nothing remains.
 pub whole_is : {A : Type 0} (reading : List ℕ → Result (A × ℕ) WireFault) (bytes : List ℕ) (v : A) → whole reading bytes ≡ Some v → reading bytes ≡ Ok (v, length bytes)
 whole_is reading bytes v e = if_whole_some (length bytes) (reading bytes) v e
 
 pub whole_again : {A : Type 0} (reading : List ℕ → Result (A × ℕ) WireFault) (bytes : List ℕ) (v : A) → reading bytes ≡ Ok (v, length bytes) → whole reading bytes ≡ Some v
 whole_again reading bytes v e = rw (e, eq-eqb (length bytes) (length bytes) refl) refl
-
-pub item_count_again : (item : List ℕ) (count : ℕ) → length item ≤ 1048576 → count < 2 ^ 64 → item_count_of (spelled_item_count item count) ≡ Some (item, count)
-unfolding item_count_of
-item_count_again item count short lt =
-    let bytes = spelled_item_count item count in
-    let one = pair_again body_reading number_reading item count (spelled_body item) (spelled_number count) [] (body_again item (spelled_number count ++ []) short) (number_again count [] lt) in
-    let read : pair_reading body_reading number_reading bytes ≡ Ok ((item, count), length bytes) = ap (pair_reading body_reading number_reading) (sym (append-nil bytes)) ∙ one in
-    whole_again (pair_reading body_reading number_reading) bytes (item, count) read
-
-pub item_count_spelled : (bytes item : List ℕ) (count : ℕ) → AreBytes bytes → item_count_of bytes ≡ Some (item, count) → (length item ≤ 1048576) × (count < 2 ^ 64) × (bytes ≡ spelled_item_count item count)
-unfolding item_count_of
-item_count_spelled bytes item count fit e =
-    let read = whole_is (pair_reading body_reading number_reading) bytes (item, count) e in
-    let p = pair_spelled body_reading number_reading (λ body. (length body ≤ 1048576) × AreBytes body) (λ n. n < 2 ^ 64) spelled_body spelled_number body_spelled number_spelled bytes (item, count) (length bytes) fit read in
-    (p.0.0.0, p.0.1, sym (take-length bytes) ∙ p.1)

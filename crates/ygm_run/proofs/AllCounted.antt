@@ -7,6 +7,7 @@ use Rattle.std.proofs.lemmas.List.Folds.{flat_map-map}
 use Rattle.std.proofs.lemmas.List.Sums.{sum_by-cons}
 use Rattle.std.proofs.lemmas.Nat.{mod_below}
 use Rattle.std.proofs.lemmas.Option.{slice_get-get_or}
+use Rattle.list_facts.proofs.Sums.{sum_by-map}
 use Rattle.msg_codec.specs.declared.letter.Letter.{Letter}
 use Rattle.ygm_route.specs.declared.scheme.Scheme.TheVariants.{Direct}
 use Rattle.ygm_route.specs.Layout.{Shape}
@@ -22,8 +23,7 @@ use Rattle.comm_rank.specs.Rank.{Rank, fresh_rank, local_of, ran_at, ran_from}
 use Rattle.comm_rank.specs.Settled.{IsRankOf}
 use Rattle.counting_set.specs.Counting.{Counts, counting_apply, AreCounted}
 use Rattle.counting_set.specs.Owner.{fnv, owner_of_key}
-use Rattle.counting_set.proofs.Counted.{adds_of_one_are_counted}
-use Rattle.counting_set.proofs.Sums.{sum_by-of}
+use Rattle.counting_set.proofs.Counts.Counted.{adds_of_one_are_counted}
 use Rattle.ygm_run.specs.Carried.{AreReady, Carried, IsQuiet, kept, letters_of}
 use Rattle.ygm_run.specs.Tally.{AreCounts, all_lines, times}
 use Rattle.ygm_run.proofs.Counting.{times-all_lines}
@@ -130,7 +130,7 @@ module _ (files : List (List (List ℕ))) (ranks : ℕ) (comms : List (Rank Coun
   -- an item was counted at its owner as often as it stands among all lines, and nowhere else
   times_at : (x : List ℕ) (d : ℕ) → d < ranks → times x (counted_at d) ≡ cond (eqb (owner_of_key x ranks) d) (times x (all_lines files)) 0
   times_at x d t =
-      sum_by-of (λ line. cond (bytes_eq x line) 1 0) item_of (ran d)
+      sum_by-map (λ line. cond (bytes_eq x line) 1 0) item_of (ran d)
       ∙ sum_by-senders (one_if_adds x) ranks (ran d) (below d t)
       ∙ sum_upto-same (λ s. sum_by (one_if_adds x) (letters_from s (ran d))) (λ s. cond (eqb (owner_of_key x ranks) d) (times x (own s)) 0) ranks
       (λ s f. ap (sum_by (one_if_adds x)) (ran_of s d f t) ∙ counted_in_letters x ranks s d (own s) (h.short s))
