@@ -1,12 +1,9 @@
 -- What calls on a world of ranks do, from what calls on its parts ensure.
-use Rattle.std.proofs.Common.{◌≡◌, ◌≢◌, ℕ, ◌+◌, ◌<◌, ◌≤◌, ◌^◌, true, false, List, [], ◌∷◌, ◌++◌, Some, Result, Ok, Err, OnOk, IfErr, IsErr, refl, length, set, take, drop, get_or, sym, ap, ◌∙◌, subst, inl, inr, arith, slice_get, append-nil, length-set}
+use Rattle.std.proofs.Common.{◌≡◌, ℕ, ◌+◌, ◌<◌, ◌≤◌, ◌^◌, true, false, List, [], Some, Result, Ok, Err, OnOk, IfErr, IsErr, refl, length, set, get_or, sym, ap, ◌∙◌, subst, inl, inr, arith, slice_get, length-set}
 use Rattle.std.specs.Option.{option_map}
 use Rattle.std.proofs.lemmas.Bool.{cases_eq, cases_lt, false≢true}
 use Rattle.std.proofs.lemmas.Option.{slice_get-map, slice_get_read, get_or_from_slice_get}
-use Rattle.std.proofs.Math.Seq.{take-length}
-use Rattle.std.proofs.Math.ListN.{drop_of_length-le}
 use Rattle.list_facts.proofs.Places.{item_kept, item_placed, item_set}
-use Rattle.msg_codec.specs.declared.letter.Letter.{Letter}
 use Rattle.world_core.specs.declared.entry.Entry.{Entry}
 use Rattle.world_core.specs.Modest.{IsWorld}
 use Rattle.world_core.specs.Plain.{Plain, is_stopped, told_by}
@@ -111,12 +108,6 @@ for_memory (Ok u) links calm gave met = tt
 for_memory (Err Stopped) links calm gave met = absurd (false≢true (sym calm ∙ met))
 for_memory (Err (CountFull at)) links calm gave met = absurd (omega (arith, gave.4))
 for_memory (Err NoMemory) links calm gave met = refl
-
--- a whole slice of a vector was written
-pub written_back : {X : Type 0} (len : ℕ) (xs ys : List X) → len ≡ length ys → length xs ≡ length ys → take len (xs ++ drop (length xs) ys) ≡ xs
-written_back len xs ys all same =
-    ap (λ k. take k (xs ++ drop (length xs) ys)) (all ∙ sym same) ∙ ap (λ w. take (length xs) (xs ++ w)) (drop_of_length-le ys (omega (arith, same)))
-    ∙ ap (take (length xs)) (append-nil xs) ∙ take-length xs
 
 pub has_settled : (r : Result (Unit {0}) CommFault) (caller : ℕ) (before after : List (Rank Counts)) (old new : Plain) → AreReady before old → length after ≡ length before → AreSameRanks before after
     → OnOk r ((rank : ℕ) → HasAdvanced counting_apply before after old new rank) → OnOk r (HasRun before after old new caller) → OnOk r (AreRanks counting_apply (λ _. []) after new) → IsWorld new.world → OnOk r (SameStops (told_by old) (told_by new))

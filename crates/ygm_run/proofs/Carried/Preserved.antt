@@ -1,10 +1,10 @@
 -- Lines are sent and letters run, and `Carried` and `AreReady` still hold.
-use Rattle.std.proofs.Common.{◌≡◌, ◌≢◌, ℕ, ◌+◌, ◌<◌, ◌≤◌, ◌^◌, cond, eqb, false, zero, replicate, List, [], ◌∷◌, ◌++◌, Some, length, map, set, suc, refl, sym, ap, ◌∙◌, subst, inl, inr, arith, slice_get, length-append, length-set, append-nil}
+use Rattle.std.proofs.Common.{◌≡◌, ◌≢◌, ℕ, ◌+◌, ◌<◌, ◌≤◌, ◌^◌, cond, eqb, List, [], ◌∷◌, ◌++◌, Some, length, map, set, suc, refl, sym, ap, ◌∙◌, subst, inl, inr, arith, slice_get, length-append, length-set, append-nil}
 use Rattle.std.proofs.lemmas.List.{map-append, get_or-replicate}
 use Rattle.std.proofs.lemmas.List.Elements.{filter-append}
 use Rattle.std.proofs.lemmas.Bool.{cases_eq, cases_lt, eq-eqb, ne_eqb}
 use Rattle.std.proofs.lemmas.Option.{slice_get_within}
-use Rattle.std.specs.List.{AllByRecursion, filter, list_any}
+use Rattle.std.specs.List.{AllByRecursion, filter}
 use Rattle.list_facts.specs.Prefix.{IsPrefix}
 use Rattle.list_facts.proofs.Places.{item_at_end, item_kept, item_left, item_placed, item_there, same_item}
 use Rattle.list_facts.proofs.Prefix.{prefix_both_ways}

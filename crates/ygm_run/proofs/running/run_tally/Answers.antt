@@ -2,7 +2,7 @@ use Rattle.std.proofs.Common.{◌≡◌, ◌∙◌, length, map, string_bytes, a
 use Rattle.std.proofs.lemmas.List.{length-map, take-map, take_all}
 use Rattle.ygm_run.specs.Words.{texts_of}
 use Rattle.ygm_run.proofs.Ending.RunEnds.{run_opened, run_over, rests_unread}
-use Rattle.ygm_run.proofs.Carried.Calls.{written_back}
+use Rattle.list_facts.proofs.Slices.{written_back}
 use Rattle.ygm_run.proofs.running.run_tally.Goals as goal
 
 pub returns-in-Err-clause-rests : goal.returns-in-Err-clause-rests

@@ -2,7 +2,8 @@ use Rattle.std.proofs.Common.{◌≡◌, List, OnOk, length, ap, sym, ◌∙◌,
 use Rattle.comm_rank.specs.Rank.{Rank}
 use Rattle.counting_set.specs.Counting.{Counts}
 use Rattle.ygm_run.specs.Carried.{AreReady, HasSettled}
-use Rattle.ygm_run.proofs.Carried.Calls.{for_memory, has_settled, written_back}
+use Rattle.list_facts.proofs.Slices.{written_back}
+use Rattle.ygm_run.proofs.Carried.Calls.{for_memory, has_settled}
 use Rattle.ygm_run.proofs.world.World.settle.Goals as goal
 
 pub returns-clause-settled : goal.returns-clause-settled
