@@ -1,3 +1,5 @@
+pub mod RanAt
 pub mod RanFrom
 pub mod Same
 pub mod Sent
+pub mod SentCount

@@ -2,13 +2,16 @@
 ghost use Rattle.std.specs.Prelude.{◌≡◌, ◌<◌, ◌≤◌, ◌+◌, ◌^◌, ℕ, List, [], ◌∷◌, false, length, Err, IfOk, IfErr, OnOk, OnErr};
 ghost use Rattle.msg_codec.specs.Letter.{letter_of};
 ghost use Rattle.world_core.specs.declared.entry.Entry.{Entry};
+ghost use Rattle.list_facts.specs.Sums.{sum_upto};
+ghost use Rattle.world_core.specs.Limits.{most_letters};
 ghost use Rattle.world_core.specs.Log.{letters_of};
+ghost use Rattle.world_core.specs.Rules.{IsHonest};
 ghost use Rattle.ygm_route.specs.declared.scheme.Scheme.TheVariants.{Direct};
 ghost use Rattle.comm_rank.specs.Agrees.{Agrees};
 ghost use Rattle.comm_rank.specs.Fault.{IsFullAt, NeverStopped};
 ghost use Rattle.comm_rank.specs.declared.fault.CommFault.TheVariants.{CountFull};
 ghost use Rattle.comm_rank.specs.Held.{Gains};
-ghost use Rattle.comm_rank.specs.Rank.{HasSent, fresh_rank};
+ghost use Rattle.comm_rank.specs.Rank.{HasSent, fresh_rank, local_of, sent_to};
 ghost use Rattle.comm_rank.specs.Store.{AreApart, IsHeldFor};
 
 use crate::held::Held;
@@ -165,12 +168,16 @@ impl<H: Handler> Comm<H> {
         self.here
     }
 
-    /// The number of letters that it has sent, by `send` and by its handler, whether they ran or not.
+    /// The number of letters that it has sent, by `send` and by its handler, whether they ran or not: where the rank
+    /// agrees with an honest log, the sum of what it has sent to each rank.
     pub fn sent_count(&self) -> u64
         ensures value { result ≡ self.now.sent_count }
         ensures within { result ≤ self.now.most }
-        ensures bound { self.now.most ≤ 2 ^ 56 }
+        ensures bound { self.now.most ≤ most_letters }
+        ensures sum { (log : List Entry) → Agrees H.apply H.start self.now log → IsHonest (local_of self.now log) →
+            result ≡ sum_upto (λ to. length (sent_to self.now log to)) self.now.layout.ranks }
     {
+        self.held.holds();
         self.sent.count()
     }
 

@@ -4,7 +4,7 @@ ghost use Rattle.msg_codec.specs.Letter.{letter_of};
 ghost use Rattle.msg_codec.specs.declared.letter.Letter.{Letter};
 ghost use Rattle.world_core.specs.Log.{letters_of};
 ghost use Rattle.comm_rank.specs.Held.{Gains, held_for};
-ghost use Rattle.comm_rank.specs.Store.{AreApart, IsHeldFor, Loses, holding};
+ghost use Rattle.comm_rank.specs.Store.{AreApart, AreHeld, IsHeldFor, Loses, holding};
 
 use msg_codec::{Batch, LetterRef};
 use std::alloc::{AllocError, Global};
@@ -154,9 +154,11 @@ impl Held {
         self.queues[to as usize].give_back(batch);
     }
 
-    /// It does nothing. What is held of a pair of ranks is in the list of its destination.
+    /// It does nothing. There is a list for each rank, with letters for it, so that what is held of a pair of ranks
+    /// is in the list of its destination.
     pub(crate) fn holds(&self)
-        ensures { (to : ℕ) → AreApart self.now.lists to }
+        ensures held { AreHeld (length self.now.lists) self.now.lists }
+        ensures apart { (to : ℕ) → AreApart self.now.lists to }
     {
         let _ = &self.alloc;
     }

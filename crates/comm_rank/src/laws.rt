@@ -1,13 +1,40 @@
 //! What the contracts add up to. Each law is the contract of a function that does nothing.
-ghost use Rattle.std.specs.Prelude.{◌<◌};
+ghost use Rattle.std.specs.Prelude.{◌≡◌, ◌≢◌, ◌<◌, ℕ, IsTrue, List, [], ◌∷◌, ◌++◌};
 ghost use Rattle.list_facts.specs.Prefix.{IsPrefix};
+ghost use Rattle.msg_codec.specs.declared.letter.Letter.{Letter};
+ghost use Rattle.world_core.specs.declared.entry.Entry.{Entry};
+ghost use Rattle.world_core.specs.Pairs.{arrived, for_rank, is_data};
 ghost use Rattle.world_core.specs.Sound.{IsSound};
 ghost use Rattle.world_core.specs.World.{Logs, log_of};
-ghost use Rattle.comm_rank.specs.Rank.{Rank, ran_from, sent_to};
+ghost use Rattle.comm_rank.specs.Agrees.{Agrees};
+ghost use Rattle.comm_rank.specs.Rank.{HasSent, Rank, ran_at, ran_from, sent_to};
+ghost use Rattle.comm_rank.specs.Turns.{CutOff};
+
+use crate::Handler;
 
 /// In a sound world, what ran at a rank from a sender is the beginning of what that one sent there: each of
 /// its letters ran once at most, and in order. That holds at every moment, whatever carries the letters.
 pub fn what_ran_is_the_beginning_of_what_was_sent<H>()
     ensures { (world : Logs) (sender me : Rank H) → IsSound world → sender.here < world.layout.ranks → me.here < world.layout.ranks →
         IsPrefix (ran_from me (log_of world me.here) sender.here) (sent_to sender (log_of world sender.here) me.here) }
+{}
+
+/// What ran at a rank is what came for it, without what still waits.
+pub fn what_ran_is_what_came_without_what_waits<H>()
+    ensures { (me : Rank H) (log : List Entry) (run : List Letter) → arrived me.here log ≡ run ++ for_rank me.here me.waiting → ran_at me log ≡ run }
+{}
+
+/// What came for a rank has run, or still waits and came last: while the rank agrees with its log, and after a turn
+/// that was cut off.
+pub fn what_came_has_run_or_waits<H: Handler>()
+    ensures agrees { (me : Rank H) (log : List Entry) → Agrees H.apply H.start me log → arrived me.here log ≡ ran_at me log ++ for_rank me.here me.waiting }
+    ensures cut_off { (old me : Rank H) (before after : List Entry) → me.here ≡ old.here → CutOff H.apply old me before after →
+        arrived me.here after ≡ ran_at me after ++ for_rank me.here me.waiting }
+{}
+
+/// A letter that a rank sent is the last to its destination, and what the rank has sent to others is unchanged.
+pub fn a_letter_that_is_sent_is_the_last_to_its_destination<H>()
+    ensures last { (old new : Rank H) (l : Letter) (log : List Entry) → IsTrue (is_data l) → l.from ≡ old.here → HasSent old new l →
+        sent_to new log l.to ≡ sent_to old log l.to ++ l ∷ [] }
+    ensures others { (old new : Rank H) (l : Letter) (log : List Entry) (to : ℕ) → to ≢ l.to → HasSent old new l → sent_to new log to ≡ sent_to old log to }
 {}

@@ -1,6 +1,7 @@
 -- Sums over a list, and over the numbers below another.
 use Rattle.std.proofs.Common.{◌≡◌, ℕ, zero, suc, ◌+◌, ◌*◌, ◌<◌, ◌≤◌, List, [], ◌∷◌, map, length, get_or, sum_by, refl, sym, ap, ◌∙◌, arith}
 use Rattle.std.proofs.lemmas.List.Sums.{sum_by-cons}
+use Rattle.list_facts.specs.Sums.{sum_upto}
 
 -- over what a function makes of the elements
 pub sum_by-map : {X Y : Type 0} (f : Y → ℕ) (g : X → Y) (xs : List X) → sum_by f (map g xs) ≡ sum_by (λ x. f (g x)) xs
@@ -13,11 +14,6 @@ sum_by-ones [] = refl
 sum_by-ones (x ∷ xs) = omega (arith, sum_by-ones xs, sum_by-cons (λ x. 1) x xs)
 
 -- ---- over numbers
-
--- the sum of what a function gives for each number below another
-abbrev pub sum_upto : (ℕ → ℕ) → ℕ → ℕ
-sum_upto f zero = 0
-sum_upto f (suc n) = f n + sum_upto f n
 
 pub sum_upto-same : (f g : ℕ → ℕ) (n : ℕ) → ((s : ℕ) → s < n → f s ≡ g s) → sum_upto f n ≡ sum_upto g n
 sum_upto-same f g zero h = refl

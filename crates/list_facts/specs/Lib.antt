@@ -1,2 +1,3 @@
 pub mod Prefix
 pub mod Sublist
+pub mod Sums
