@@ -10,13 +10,13 @@ abbrev pub Counts : Type 0
 Counts = List (List ℕ × ℕ)
 
 -- a count that stays at the largest value of its type
-abbrev pub held : ℕ → ℕ
-held count = min count (2 ^ 64 - 1)
+abbrev pub capped : ℕ → ℕ
+capped count = min count (2 ^ 64 - 1)
 
 -- The item has that many more, in its place; a new item goes last.
 abbrev pub added : List ℕ → ℕ → Counts → Counts
 added item count [] = (item, count) ∷ []
-added item count (e ∷ es) = if bytes_eq item e.0 then (e.0, held (e.1 + count)) ∷ es else e ∷ added item count es
+added item count (e ∷ es) = if bytes_eq item e.0 then (e.0, capped (e.1 + count)) ∷ es else e ∷ added item count es
 
 -- the count of the item, or 0
 abbrev pub count_in : Counts → List ℕ → ℕ

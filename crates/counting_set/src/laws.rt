@@ -5,7 +5,7 @@ ghost use Rattle.msg_codec.specs.Bytes.{AreBytes};
 ghost use Rattle.msg_codec.specs.declared.letter.Letter.{Letter};
 ghost use Rattle.comm_rank.specs.Fold.{fold_from, handed_from};
 ghost use Rattle.counting_set.specs.ItemCount.{item_count_of, spelled_item_count};
-ghost use Rattle.counting_set.specs.Counting.{Counts, AreCounted, counting_apply, added, count_in, held, adds, adds_of, add_letter};
+ghost use Rattle.counting_set.specs.Counting.{Counts, AreCounted, counting_apply, added, count_in, capped, adds, adds_of, add_letter};
 
 use crate::counting::MAX_ITEM;
 use msg_codec::{Body, MAX_BODY, Wire};
@@ -40,7 +40,7 @@ pub fn no_item_stands_twice()
 pub fn counts_are_sums()
     ensures { (here ranks : ℕ) (contents : Counts) (letters : List Letter) (item : List ℕ) →
         count_in contents item < 2 ^ 64 → All (λ l. AreBytes l.body) letters →
-        count_in (fold_from counting_apply here ranks contents letters) item ≡ held (count_in contents item + sum_by (adds_of item) letters) }
+        count_in (fold_from counting_apply here ranks contents letters) item ≡ capped (count_in contents item + sum_by (adds_of item) letters) }
 {}
 
 /// A counting set sends nothing.

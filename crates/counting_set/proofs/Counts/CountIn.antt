@@ -2,7 +2,7 @@
 use Rattle.std.proofs.Common.{◌≡◌, ◌≢◌, inl, inr, ℕ, ◌+◌, ◌^◌, ◌<◌, List, [], ◌∷◌, refl, sym, ap, ◌∙◌, arith}
 use Rattle.std.specs.Prelude.{bytes_eq}
 use Rattle.list_facts.proofs.Equal.{bytes_eq-other, bytes_eq-same, cases_same}
-use Rattle.counting_set.specs.Counting.{Counts, held, added, count_in}
+use Rattle.counting_set.specs.Counting.{Counts, capped, added, count_in}
 
 pub count_in-first : (item : List ℕ) (c : ℕ) (es : Counts) → count_in ((item, c) ∷ es) item ≡ c
 count_in-first item c es = rw (bytes_eq-same item) refl
@@ -11,9 +11,9 @@ pub count_in-later : (item other : List ℕ) (c : ℕ) (es : Counts) → item �
 count_in-later item other c es ne = rw (bytes_eq-other item other ne) refl
 
 -- the item's own count
-pub count_in-added : (item : List ℕ) (count : ℕ) (es : Counts) → count < 2 ^ 64 → count_in (added item count es) item ≡ held (count_in es item + count)
+pub count_in-added : (item : List ℕ) (count : ℕ) (es : Counts) → count < 2 ^ 64 → count_in (added item count es) item ≡ capped (count_in es item + count)
 count_in-added item count [] lt =
-    let fits : count ≡ held (0 + count) = omega (arith, lt) in
+    let fits : count ≡ capped (0 + count) = omega (arith, lt) in
     count_in-first item count [] ∙ fits
 count_in-added item count (e ∷ es) lt =
     elim (cases_same item e.0) [

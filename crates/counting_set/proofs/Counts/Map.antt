@@ -5,7 +5,7 @@ use Rattle.std.specs.Map.{lookup, set_value}
 use Rattle.std.proofs.lemmas.Bool.{cases_Bool}
 use Rattle.std.proofs.lemmas.Option.{none-some, same_Some}
 use Rattle.indexmap.specs.IndexMap.{insert_entry}
-use Rattle.counting_set.specs.Counting.{Counts, held, added, count_in}
+use Rattle.counting_set.specs.Counting.{Counts, capped, added, count_in}
 
 module _ {K : Type 0} (bytes : K → List ℕ) where
   abbrev pub seen : List (K × ℕ) → Counts
@@ -15,7 +15,7 @@ module _ {K : Type 0} (bytes : K → List ℕ) where
   is_key item k = bytes_eq item (bytes k)
 
   -- an item that is there
-  pub added-set_value : (item : List ℕ) (count old new : ℕ) (es : List (K × ℕ)) → lookup (is_key item) es ≡ Some old → new ≡ held (old + count)
+  pub added-set_value : (item : List ℕ) (count old new : ℕ) (es : List (K × ℕ)) → lookup (is_key item) es ≡ Some old → new ≡ capped (old + count)
       → seen (set_value (is_key item) es new) ≡ added item count (seen es)
   added-set_value item count old new [] found is = absurd cc
   added-set_value item count old new (e ∷ es) found is =
