@@ -1,7 +1,7 @@
 //! Files in memory.
 ghost use Rattle.std.specs.Prelude.{◌≡◌, ◌≤◌, ◌++◌, [], ◌∷◌, None, IfOk, OnOk, OnErr, IsErrOf};
-ghost use Rattle.ygm_io.specs.ByName.{File, last_named, bytes_named};
-ghost use Rattle.ygm_io.specs.Memory.{FilesInMemory, MemoryOpenFailed, MemoryOpened};
+ghost use Rattle.ygm_io.specs.ByName.{last_named, bytes_named};
+ghost use Rattle.ygm_io.specs.Memory.{MemoryOpenFailed, MemoryOpened};
 ghost use Rattle.ygm_io.specs.Plan.{fresh_plan, NextFails};
 
 use crate::named::{Named, add_named, find_named};
@@ -17,6 +17,8 @@ struct MemFile {
 }
 
 impl Model for MemFile {
+    ghost use Rattle.ygm_io.specs.ByName.{File};
+
     ghost Value = { File };
 
     ghost view = { λ file. record { bytes = file.bytes.items; fails = file.fails.items } };
@@ -49,16 +51,10 @@ pub struct MemFiles {
     plan: FaultPlan,
 }
 
-impl Model for MemFiles {
-    ghost Value = { FilesInMemory };
-
-    ghost view = { λ files. record { files = files.files.items; plan = files.plan } };
-}
-
 impl MemFiles {
     /// No files, and no open that is to fail.
     pub fn new(alloc: Global) -> MemFiles
-        ensures empty { result.files ≡ [] }
+        ensures empty { result.files.items ≡ [] }
         ensures plan { result.plan ≡ fresh_plan [] }
     {
         MemFiles {
@@ -72,10 +68,9 @@ impl MemFiles {
     /// that is opened from it, by their numbers in that source. Of files of one name the one that was
     /// added last is opened.
     pub fn add(&mut self, name: &str, bytes: &[u8], fails: &[u64]) -> Result<(), AllocError>
-        ensures added { OnOk result (self.new ≡ record self.old {
-          files = self.old.files ++ (name.now, record { bytes = bytes.now; fails = fails.now }) ∷ [];
-        }) }
-        ensures unchanged { OnErr result (self.new ≡ self.old) }
+        ensures added { OnOk result (self.new.files.items ≡ self.old.files.items ++ (name.now, record { bytes = bytes.now; fails = fails.now }) ∷ []) }
+        ensures unchanged { OnErr result (self.new.files.items ≡ self.old.files.items) }
+        ensures same_plan { self.new ≡ record self.old { files = self.new.files } }
     {
         let file = MemFile::new(self.alloc, bytes, fails)?;
         add_named(self.alloc, &mut self.files, name, file)
@@ -83,10 +78,10 @@ impl MemFiles {
 
     /// Adds an open that is to fail, by its number. Opens are counted from 0.
     pub fn fail_open(&mut self, call: u64) -> Result<(), AllocError>
-        ensures added { OnOk result (self.new ≡ record self.old {
-          plan = record self.old.plan { fails = self.old.plan.fails ++ call ∷ [] };
-        }) }
+        ensures added { OnOk result (self.new.plan ≡
+            record self.old.plan { fails = self.old.plan.fails ++ call ∷ [] }) }
         ensures unchanged { OnErr result (self.new ≡ self.old) }
+        ensures same_files { self.new ≡ record self.old { plan = self.new.plan } }
     {
         self.plan.add(call)
     }
@@ -102,7 +97,7 @@ impl MemFiles {
 impl Files for MemFiles {
     type Src = MemSource;
 
-    ghost content = { λ files name. bytes_named name files.files };
+    ghost content = { λ files name. bytes_named name files.files.items };
 
     ghost faults = { λ files. files.plan.faults };
 
@@ -114,7 +109,7 @@ impl Files for MemFiles {
         ensures failed { IsErrOf result OpenFailed.Failed → MemoryOpenFailed name.now self.old self.new }
         ensures unchanged_without_memory { IsErrOf result OpenFailed.NoMemory → self.new ≡ self.old }
         ensures at_listed_calls { NextFails self.old.plan → IsErrOf result OpenFailed.Failed }
-        ensures at_names_not_added { last_named name.now self.old.files ≡ None → IsErrOf result OpenFailed.Failed }
+        ensures at_names_not_added { last_named name.now self.old.files.items ≡ None → IsErrOf result OpenFailed.Failed }
         ensures same_files { self.new ≡ record self.old { plan = self.new.plan } }
         ensures never_falls { self.old.plan.faults ≤ self.new.plan.faults }
     {

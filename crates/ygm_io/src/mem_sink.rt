@@ -1,12 +1,11 @@
 //! A sink in memory.
 ghost use Rattle.std.specs.Prelude.{◌≡◌, ◌≤◌, [], Some, IsErr, IfOk, OnErr, vec_capacity};
-ghost use Rattle.ygm_io.specs.Memory.{MemoryWriteFailed, MemoryWritten, SinkInMemory};
+ghost use Rattle.ygm_io.specs.Memory.{MemoryWriteFailed, MemoryWritten};
 ghost use Rattle.ygm_io.specs.Plan.{fresh_plan, NextFails};
 
 use crate::plan::FaultPlan;
 use crate::{Failed, Sink};
 use std::alloc::{AllocError, Global};
-use std::marker::Model;
 
 /// A sink in memory, for tests: it exposes its bytes, fails at the calls that it was given, and takes
 /// only so many bytes at once.
@@ -15,15 +14,7 @@ pub struct MemSink {
     held: Vec<u8>,
     plan: FaultPlan,
     most: usize,
-}
-
-impl Model for MemSink {
-    ghost Value = { SinkInMemory };
-
-    ghost view = { λ sink.
-        record { held = sink.held.items; capacity = vec_capacity sink.held; most = sink.most; plan = sink.plan } };
-
-    ghost invariant = { λ sink. 1 ≤ sink.most };
+    ghost takes_some: { 1 ≤ most },
 }
 
 impl MemSink {
@@ -31,7 +22,7 @@ impl MemSink {
     /// write takes at most `most` bytes.
     pub fn new(alloc: Global, fails: &[u64], most: usize) -> Result<MemSink, AllocError>
         requires { 1 ≤ most }
-        ensures empty { IfOk result (λ sink. sink.held ≡ []) }
+        ensures empty { IfOk result (λ sink. sink.held.items ≡ []) }
         ensures plan { IfOk result (λ sink. sink.plan ≡ fresh_plan fails.now) }
         ensures most { IfOk result (λ sink. sink.most ≡ most) }
     {
@@ -44,7 +35,7 @@ impl MemSink {
 
     /// The bytes that were written.
     pub fn bytes(&self) -> &[u8]
-        ensures { result.now ≡ self.now.held }
+        ensures { result.now ≡ self.now.held.items }
     {
         &self.held
     }
@@ -58,18 +49,20 @@ impl MemSink {
 }
 
 impl Sink for MemSink {
-    ghost holds = { λ sink. Some sink.held };
+    ghost holds = { λ sink. Some sink.held.items };
 
     ghost faults = { λ sink. sink.plan.faults };
 
     /// Writes as many bytes as one call takes. It fails at the calls that it was given, and where it
     /// has to take memory and that is refused.
     fn write(&mut self, bytes: &[u8]) -> Result<usize, Failed>
-        ensures took { IfOk result (λ count. MemoryWritten count bytes.now self.old self.new) }
-        ensures failed { OnErr result (MemoryWriteFailed bytes.now self.old self.new) }
+        ensures took { IfOk result (λ count. MemoryWritten count bytes.now
+            self.old.held.items self.new.held.items self.old.most self.old.plan self.new.plan) }
+        ensures failed { OnErr result (MemoryWriteFailed bytes.now
+            self.old.held.items self.new.held.items (vec_capacity self.old.held) self.old.most self.old.plan self.new.plan) }
         ensures at_listed_calls { NextFails self.old.plan → IsErr result }
+        ensures same_most { self.new ≡ record self.old { held = self.new.held; plan = self.new.plan } }
         ensures never_falls { self.old.plan.faults ≤ self.new.plan.faults }
-        ensures takes_some { 1 ≤ self.new.most }
     {
         let count = bytes.len().min(self.most);
         if self.plan.next_fails() || self.held.extend_from_slice(&bytes[..count]).is_err() {

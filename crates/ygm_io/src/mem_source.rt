@@ -1,26 +1,19 @@
 //! A source in memory.
 ghost use Rattle.std.specs.Prelude.{◌≡◌, ◌<◌, ◌≤◌, ◌↔◌, length, Some, IsErr, IfOk, OnErr};
 ghost use Rattle.ygm_io.specs.Content.{NothingLeft};
-ghost use Rattle.ygm_io.specs.Memory.{MemoryRead, MemoryReadFailed, SourceInMemory};
+ghost use Rattle.ygm_io.specs.Memory.{MemoryRead, MemoryReadFailed};
 ghost use Rattle.ygm_io.specs.Plan.{fresh_plan, NextFails};
 
 use crate::plan::FaultPlan;
 use crate::unread::Unread;
 use crate::{Failed, Source};
 use std::alloc::{AllocError, Global};
-use std::marker::Model;
 
 /// A source in memory, for tests: it exposes its bytes, and fails at the calls that it was given.
 #[derive(Debug, Drop)]
 pub struct MemSource {
     left: Unread,
     plan: FaultPlan,
-}
-
-impl Model for MemSource {
-    ghost Value = { SourceInMemory };
-
-    ghost view = { λ source. record { left = source.left; plan = source.plan } };
 }
 
 impl MemSource {

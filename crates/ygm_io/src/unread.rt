@@ -1,5 +1,5 @@
 //! Bytes that are read from the front.
-ghost use Rattle.std.specs.Prelude.{◌≡◌, ◌≤◌, List, ℕ, length, drop, IfOk};
+ghost use Rattle.std.specs.Prelude.{◌≡◌, IfOk};
 ghost use Rattle.ygm_io.specs.Memory.{Moved};
 
 use std::alloc::{AllocError, Global};
@@ -13,6 +13,8 @@ pub struct Unread {
 }
 
 impl Model for Unread {
+    ghost use Rattle.std.specs.Prelude.{◌≤◌, List, ℕ, length, drop};
+
     ghost Value = { List ℕ };
 
     ghost view = { λ unread. drop unread.read unread.bytes.items };
