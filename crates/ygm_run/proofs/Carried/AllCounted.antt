@@ -6,7 +6,6 @@ use Rattle.std.proofs.lemmas.List.{length-map, get_or-map}
 use Rattle.std.proofs.lemmas.List.Folds.{flat_map-map}
 use Rattle.std.proofs.lemmas.Nat.{mod_below}
 use Rattle.std.proofs.lemmas.Option.{slice_get-get_or}
-use Rattle.list_facts.proofs.Sums.{sum_by-map}
 use Rattle.msg_codec.specs.declared.letter.Letter.{Letter}
 use Rattle.ygm_route.specs.declared.scheme.Scheme.TheVariants.{Direct}
 use Rattle.ygm_route.specs.Layout.{Shape}
@@ -16,7 +15,8 @@ use Rattle.world_core.specs.Modest.{IsLawful}
 use Rattle.world_core.specs.Pairs.{arrived, for_rank, is_data, is_of_pair, of_pair}
 use Rattle.world_core.specs.World.{log_of}
 use Rattle.list_facts.proofs.Elements.{all_take}
-use Rattle.list_facts.proofs.Sums.{sum_by-map, sum_by-ones, sum_upto, sum_upto-le, sum_upto-list, sum_upto-same, sum_upto-zero}
+use Rattle.list_facts.specs.Sums.{sum_upto}
+use Rattle.list_facts.proofs.Sums.{sum_by-map, sum_by-ones, sum_upto-le, sum_upto-list, sum_upto-same, sum_upto-zero}
 use Rattle.list_facts.proofs.Tests.{and_first, and_second}
 use Rattle.comm_rank.specs.Fold.{fold_from}
 use Rattle.world_core.specs.Plain.{Plain}
