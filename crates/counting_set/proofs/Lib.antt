@@ -1,6 +1,2 @@
-pub mod Adding
-pub mod Counted
-pub mod Entries
-pub mod Placed
-pub mod Steps
-pub mod Sums
+pub mod Counts
+pub mod ItemCount

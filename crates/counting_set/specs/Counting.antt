@@ -2,14 +2,14 @@
 -- letters do to it.
 use Rattle.std.specs.Prelude.{◌≡◌, ◌≢◌, ◌↔◌, ℕ, ◌+◌, ◌-◌, ◌^◌, ◌<◌, ◌==◌, ◌&&◌, nat_le, min, List, [], ◌∷◌, Option, Some, None, if◌then◌else◌, bytes_eq, count_by, length, AllPairs, Contains}
 use Rattle.msg_codec.specs.declared.letter.Letter.{Letter}
-use Rattle.msg_codec.specs.ItemCount.{item_count_of, spelled_item_count}
 use Rattle.comm_rank.specs.Fold.{Applies}
+use Rattle.counting_set.specs.ItemCount.{item_count_of, spelled_item_count}
 
 -- items with their counts
 abbrev pub Counts : Type 0
 Counts = List (List ℕ × ℕ)
 
--- a count that stands still at the end of its type
+-- a count that stays at the largest value of its type
 abbrev pub held : ℕ → ℕ
 held count = min count (2 ^ 64 - 1)
 
@@ -18,17 +18,17 @@ abbrev pub added : List ℕ → ℕ → Counts → Counts
 added item count [] = (item, count) ∷ []
 added item count (e ∷ es) = if bytes_eq item e.0 then (e.0, held (e.1 + count)) ∷ es else e ∷ added item count es
 
--- how many of the item there are
+-- the count of the item, or 0
 abbrev pub count_in : Counts → List ℕ → ℕ
 count_in [] item = 0
 count_in (e ∷ es) item = if bytes_eq item e.0 then e.1 else count_in es item
 
--- The item and the count that a letter adds: an add has the tag 1, and its body is no spelling where it
--- has more than 1,000,200 bytes.
+-- The item and the count that a letter adds: an add has the tag 1, and its body encodes nothing if it has
+-- more than 1,000,200 bytes.
 abbrev pub adds : Letter → Option (List ℕ × ℕ)
 adds l = if (l.tag == 1) && nat_le (length l.body) 1000200 then item_count_of l.body else None
 
--- what is added, where something is
+-- the contents after what is added, if anything is
 abbrev pub added_if : Option (List ℕ × ℕ) → Counts → Counts
 added_if None contents = contents
 added_if (Some one) contents = added one.0 one.1 contents
@@ -49,7 +49,7 @@ adds_of item l = share item (adds l)
 abbrev pub add_letter : ℕ → ℕ → List ℕ → Letter
 add_letter to from item = record { to = to; from = from; tag = 1; body = spelled_item_count item 1 }
 
--- each line is there once, with the number of lines that are equal to it, and nothing else is
+-- each distinct line is there once, with the number of lines equal to it, and nothing else is
 pub record AreCounted (contents : Counts) (lines : List (List ℕ)) : Type 0 where
   pub distinct : AllPairs (λ pair later. pair.0 ≢ later.0) contents
   pub counted : (x : List ℕ) (c : ℕ) → Contains contents (x, c) ↔ ((c ≡ count_by (λ line. bytes_eq x line) lines) × (0 < c))

@@ -1,3 +1,4 @@
 pub mod Counting
+pub mod ItemCount
 pub mod Owner
 pub mod Shown

@@ -1,14 +1,14 @@
 -- The rank that a key belongs to: by the 64-bit FNV-1a hash of its bytes.
 use Rattle.std.specs.Prelude.{ℕ, ◌*◌, ◌%◌, ◌^◌, List, fold, bit_xor}
 
--- where the hash starts
+-- the hash of no bytes
 abbrev pub offset_basis : ℕ
 offset_basis = 14695981039346656037
 
 abbrev pub prime : ℕ
 prime = 1099511628211
 
--- the hash with one byte more
+-- the hash after one byte more
 unfoldable pub fnv_step : ℕ → ℕ → ℕ
 fnv_step hash byte = bit_xor hash byte * prime % 2 ^ 64
 

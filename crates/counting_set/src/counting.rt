@@ -6,9 +6,10 @@ ghost use Rattle.msg_codec.specs.Letter.{letter_of};
 ghost use Rattle.counting_set.specs.Counting as spec;
 ghost use Rattle.counting_set.specs.Shown.{ShownTo};
 
+use crate::item_count::read_item_count;
 use comm_rank::{Handler, Outgoing};
 use indexmap::IndexMap;
-use msg_codec::{LetterRef, read_item_count};
+use msg_codec::LetterRef;
 use std::alloc::{AllocError, Global};
 use std::marker::Model;
 
@@ -21,8 +22,8 @@ pub(crate) const ADD: u8 = 1;
 /// The greatest number of bytes of the body of such a letter.
 const MAX_ADD: usize = 1_000_200;
 
-/// A rank's part of a counting set: items with their counts, in the order in which they were first
-/// added. A count stands still at the end of its type.
+/// A rank's part of a counting set: items with their counts, in the order in which they were first added.
+/// A count stays at the largest value of its type.
 #[derive(Drop)]
 pub struct Counting {
     alloc: Global,
@@ -49,7 +50,7 @@ impl Counting {
         })
     }
 
-    // Adds so many of an item. Only a new item is copied.
+    // Adds this many of an item. Only a new item is copied.
     fn add(&mut self, item: &[u8], count: u64) -> Result<(), AllocError>
         ensures ok { OnOk result (self.new ≡ spec.added item.now count self.old) }
         ensures err { OnErr result (self.new ≡ self.old) }
@@ -63,7 +64,7 @@ impl Counting {
         Ok(())
     }
 
-    /// How many there are of the item, 0 where it isn't there.
+    /// The count of the item, or 0 if it isn't there.
     pub fn count_here(&self, item: &[u8]) -> u64
         ensures { result ≡ spec.count_in self.now item.now }
     {
@@ -106,7 +107,7 @@ impl Counting {
     }
 }
 
-// The item and the count that a letter adds, where it is an add.
+// The item and the count that a letter adds, if it is an add.
 fn item_added(letter: LetterRef<'_>) -> Option<(&[u8], u64)>
     ensures { option_map (λ found. (found.0.now, found.1)) result ≡ spec.adds (letter_of letter.entry) }
 {

@@ -8,9 +8,10 @@ ghost use Rattle.counting_set.specs.Counting.{add_letter};
 ghost use Rattle.counting_set.specs.Owner as spec;
 
 use crate::counting::{ADD, MAX_ITEM};
+use crate::item_count::put_item_count;
 use crate::owner::owner_of_key;
 use comm_rank::{Comm, CommFault, Handler};
-use msg_codec::{Body, put_item_count};
+use msg_codec::Body;
 use std::alloc::Global;
 
 /// Adds one of an item, by a letter to the rank that owns it. After a refusal nothing has changed: at

@@ -2,13 +2,13 @@
 ghost use Rattle.std.specs.Prelude.{◌≡◌, ◌<◌, ◌≤◌};
 ghost use Rattle.counting_set.specs.Owner as spec;
 
-/// Where the hash starts.
+/// The hash of no bytes.
 const OFFSET_BASIS: u64 = 14_695_981_039_346_656_037;
 
-/// What the hash is multiplied by.
+/// The factor of each step of the hash.
 const PRIME: u64 = 1_099_511_628_211;
 
-// The hash with one byte more.
+// The hash after one byte more.
 #[tactic(auto, unfolding(crate::specs::Owner::fnv_step))]
 fn hashed(hash: u64, byte: u8) -> u64
     ensures { result ≡ spec.fnv_step hash byte }
@@ -27,8 +27,8 @@ pub fn fnv(bytes: &[u8]) -> u64
     hash
 }
 
-/// The rank that a key belongs to, in a world of so many ranks: its hash modulo their number. Where there
-/// is one rank alone, the key isn't hashed.
+/// The rank that a key belongs to, in a world of this many ranks: its hash modulo their number. If there is
+/// only one rank, the key isn't hashed.
 pub fn owner_of_key(key: &[u8], ranks: u32) -> u32
     requires { 1 ≤ ranks }
     ensures value { result ≡ spec.owner_of_key key.now ranks }

@@ -10,7 +10,7 @@ ghost use Rattle.counting_set.specs.Counting.{counting_apply};
 
 use super::*;
 use comm_rank::{Comm, CommFault, Handler, Outgoing, Turn};
-use msg_codec::{LetterRef, put_item_count};
+use msg_codec::LetterRef;
 use std::alloc::{AllocError, Global};
 use std::marker::Model;
 use std::test::*;

@@ -31,7 +31,7 @@ pub ok_or_err : {T E : Type 0} (r : Result T E) → ((x : T) × (r ≡ Ok x)) �
 ok_or_err (Ok x) = inl (x, refl)
 ok_or_err (Err d) = inr (d, refl)
 
--- a test that fails returned no error
+-- Ok comes after a test for an error only where the test is false
 pub guard_ok : {T E : Type 0} (b : Bool) (d : E) (r : Result T E) (y : T) → cond b (Err d) r ≡ Ok y → (b ≡ false) × (r ≡ Ok y)
 guard_ok true d r y e = absurd cc
 guard_ok false d r y e = (refl, e)

@@ -51,3 +51,12 @@ pub fn elements_are_left_out<X>()
     ensures joined { (one whole other more : List X) → IsSublist one whole → IsSublist other more →
         IsSublist (one ++ other) (whole ++ more) }
 {}
+
+#[test]
+fn the_laws_can_be_cited() {
+    prefixes_and_suffixes_are_cuts::<u64>();
+    prefixes_are_in_order::<u64>();
+    sublists_are_in_order::<u64>();
+    a_sublist_keeps_the_order::<u64>();
+    elements_are_left_out::<u64>();
+}

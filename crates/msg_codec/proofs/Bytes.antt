@@ -1,8 +1,1 @@
--- Lists of bytes.
-use Rattle.std.proofs.Common.{ℕ, ◌<◌, List, get_or}
-use Rattle.std.proofs.lemmas.List.{get_or_default}
-use Rattle.msg_codec.specs.Bytes.{AreBytes}
-
--- what a slice of bytes knows of its elements
-pub are_bytes : (bytes : List ℕ) → ((i : ℕ) → get_or bytes i 0 < 256) → AreBytes bytes
-are_bytes bytes each k d lt = rw (get_or_default bytes k d 0 lt) (each k)
+pub mod Slices

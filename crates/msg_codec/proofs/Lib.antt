@@ -1,5 +1,4 @@
-pub mod Apart
 pub mod Bytes
-pub mod ItemCount
 pub mod Placed
-pub mod Rows
+pub mod Reading
+pub mod Spelling

@@ -1,4 +1,5 @@
--- The laws of the faults of reading: a spelling that is cut is short, what is short is so for want of bytes, and what is too long stays so.
+-- The laws of the faults of decoding: an encoding that is cut is too short, bytes are too short only where more would help, and what is
+-- too long stays so.
 use Rattle.std.proofs.Common.{◌≡◌, ◌≢◌, ℕ, ◌+◌, ◌^◌, ◌<◌, ◌≤◌, Bool, true, false, cond, ltb, List, [], ◌++◌, length, take, drop, Result, Ok, Err, refl, sym, ap, ◌∙◌, append_assoc, arith, replicate, length-append, length-drop, ◌⊎◌, inl, inr}
 use Rattle.std.specs.Int.{w32, w64, from_le_bytes}
 use Rattle.std.proofs.lemmas.Bool.{cases_lt, ltb-false, le-ltb, lt-ltb}
@@ -84,7 +85,7 @@ second_err : {A C : Type 0} (r : Result A WireFault) (f : A → C) (d : WireFaul
 second_err (Ok x) f d e = absurd cc
 second_err (Err c) f d e = let same : c ≡ d = cc in ap (λ z. Err z) same
 
--- What was read is read again, whatever follows.
+-- What was decoded is decoded again, whatever follows.
 stays : {A : Type 0} (first : List ℕ → Result (A × ℕ) WireFault) (P : A → Type 0) (s : A → List ℕ)
     → ((a : A) (rest : List ℕ) → P a → first (s a ++ rest) ≡ Ok (a, length (s a)))
     → (bytes more : List ℕ) (x : A × ℕ) → first bytes ≡ Ok x → P x.0 × (take x.1 bytes ≡ s x.0) × (x.1 ≤ length bytes) → first (bytes ++ more) ≡ Ok x
@@ -112,9 +113,9 @@ pair_long first second P s one two again spelled bytes more fit e =
           rw (read, drop-append-le x.1 bytes more is.2, two rest more (All-drop (λ b. b < 2 ^ 8) x.1 bytes fit) long) refl
     ]
 
--- ---- short for want of bytes
+-- ---- short where more would help
 
--- more bytes after which what is read is short no more
+-- more bytes with which they aren't too short
 abbrev Ends : {A : Type 0} → (List ℕ → Result A WireFault) → List ℕ → Type 0
 Ends reading bytes = (more : List ℕ) × AreBytes more × (reading (bytes ++ more) ≢ Err Short)
 
@@ -138,7 +139,7 @@ body_whole false true all y is fits e = cc
 body_whole false false true y is fits e = let all : true ≡ false = fits refl in cc
 body_whole false false false y is fits e = cc
 
--- As many bytes as the longest body takes are enough, whatever its length field tells.
+-- As many bytes as the longest body has are enough, whatever its length field says.
 pub body_wants : (bytes : List ℕ) → AreBytes bytes → body_reading bytes ≡ Err Short → Ends body_reading bytes
 unfolding body_reading
 body_wants bytes fit e =
@@ -164,7 +165,7 @@ ends reading wants bytes fit =
       | inr other ↦ ([], All-replicate (λ b. b < 2 ^ 8) 0 0 (omega arith), rw (append-nil bytes) other)
     ]
 
--- Where the first is read, what the second wants is enough.
+-- Where the first is decoded, what helps the second is enough.
 second_ends : {A B : Type 0} (first : List ℕ → Result (A × ℕ) WireFault) (second : List ℕ → Result (B × ℕ) WireFault) (P : A → Type 0) (s : A → List ℕ)
     → ((bytes : List ℕ) → AreBytes bytes → second bytes ≡ Err Short → Ends second bytes)
     → ((a : A) (rest : List ℕ) → P a → first (s a ++ rest) ≡ Ok (a, length (s a)))
@@ -176,7 +177,7 @@ second_ends first second P s two again bytes x fit at is =
     let read : first (bytes ++ end.0) ≡ Ok x = stays first P s again bytes end.0 x at is in
     (end.0, end.1, rw (read, drop-append-le x.1 bytes end.0 is.2) (λ short. end.2 (second_err (second (rest ++ end.0)) (λ b. ((x.0, b.0), x.1 + b.1)) Short short)))
 
--- First what the first wants, and then what the second wants behind it.
+-- First what helps the first, and then what helps the second.
 pub pair_wants : {A B : Type 0} (first : List ℕ → Result (A × ℕ) WireFault) (second : List ℕ → Result (B × ℕ) WireFault) (P : A → Type 0) (s : A → List ℕ)
     → ((bytes : List ℕ) → AreBytes bytes → first bytes ≡ Err Short → Ends first bytes)
     → ((bytes : List ℕ) → AreBytes bytes → second bytes ≡ Err Short → Ends second bytes)

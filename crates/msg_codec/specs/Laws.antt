@@ -1,20 +1,19 @@
--- The laws of the spellings: what was spelled is read again, and what is read is spelled so.
-use Rattle.std.proofs.Common.{◌≡◌, lit<, ℕ, ◌+◌, ◌^◌, ◌<◌, ◌≤◌, Bool, true, false, cond, ltb, eqb, Some, None, List, [], ◌++◌, length, get_or, take, drop, Result, Ok, Err, refl, sym, ap, subst, ◌∙◌, append_assoc, arith, eq-eqb, length-append, length-drop, inl, inr}
+-- The laws of the encodings: what was encoded is decoded again, and what is decoded was encoded so.
+use Rattle.std.proofs.Common.{◌≡◌, lit<, ℕ, ◌+◌, ◌^◌, ◌<◌, ◌≤◌, Bool, true, false, cond, ltb, eqb, Some, None, List, ◌++◌, length, get_or, take, drop, Result, Ok, Err, refl, sym, subst, ◌∙◌, append_assoc, arith, eq-eqb, length-append, length-drop, inl, inr}
 use Rattle.std.specs.Int.{w32, w64, to_le_bytes, from_le_bytes}
 use Rattle.std.proofs.lemmas.Bool.{eqb-true, cases_lt, ltb-false, le-ltb}
-use Rattle.std.proofs.lemmas.List.{append-nil, take_at, drop_at, length-take, get_or-take, get_or_past}
+use Rattle.std.proofs.lemmas.List.{take_at, drop_at, length-take, get_or-take, get_or_past}
 use Rattle.std.proofs.lemmas.List.Elements.{All-take, All-drop}
-use Rattle.std.proofs.Math.Seq.{take-add, take-length}
+use Rattle.std.proofs.Math.Seq.{take-add}
 use Rattle.std.proofs.lemmas.Nat.{le_bytes_4, le_bytes_8, from_le_bytes-to_le_bytes_4, from_le_bytes-to_le_bytes_8}
 use Rattle.list_facts.proofs.Outcomes.{guard_ok, same_ok}
 use Rattle.msg_codec.specs.declared.wire.WireFault.{WireFault}
 use Rattle.msg_codec.specs.declared.wire.WireFault.TheVariants.{Short, TooLong}
 use Rattle.msg_codec.specs.Bytes.{AreBytes}
 use Rattle.msg_codec.specs.Reading.{◌>>=◌, number_reading, told, body_reading, pair_reading, if_whole, whole}
-use Rattle.msg_codec.specs.ItemCount.{spelled_item_count, item_count_of}
 use Rattle.msg_codec.specs.Spelling.{spelled_number, spelled_body}
 
--- past the end stands 0, which is a byte too
+-- past the end `get_or` gives 0, which is a byte too
 each_byte : (bytes : List ℕ) → AreBytes bytes → (i : ℕ) → get_or bytes i 0 < 256
 each_byte bytes fit i =
     elim (cases_lt i (length bytes)) [
@@ -22,7 +21,7 @@ each_byte bytes fit i =
       | inr le ↦ rw (get_or_past bytes i 0 le) (omega arith)
     ]
 
--- the value of a step that did not fail
+-- the value of a step that didn't fail
 bind_ok : {A B : Type 0} (r : Result A WireFault) (f : A → Result B WireFault) (y : B) → (r >>= f) ≡ Ok y → (x : A) × (r ≡ Ok x) × (f x ≡ Ok y)
 bind_ok (Ok x) f y e = (x, refl, e)
 bind_ok (Err d) f y e = absurd cc
@@ -136,24 +135,9 @@ if_whole_some : {A : Type 0} (len : ℕ) (r : Result (A × ℕ) WireFault) (v : 
 if_whole_some len (Ok (x, i)) v e = some_if (eqb i len) x v i len refl e
 if_whole_some len (Err d) v e = absurd cc
 
--- What is found in all of the bytes is read from their front, and nothing is left.
+-- What all of the bytes encode is decoded from their beginning, and nothing remains.
 pub whole_is : {A : Type 0} (reading : List ℕ → Result (A × ℕ) WireFault) (bytes : List ℕ) (v : A) → whole reading bytes ≡ Some v → reading bytes ≡ Ok (v, length bytes)
 whole_is reading bytes v e = if_whole_some (length bytes) (reading bytes) v e
 
 pub whole_again : {A : Type 0} (reading : List ℕ → Result (A × ℕ) WireFault) (bytes : List ℕ) (v : A) → reading bytes ≡ Ok (v, length bytes) → whole reading bytes ≡ Some v
 whole_again reading bytes v e = rw (e, eq-eqb (length bytes) (length bytes) refl) refl
-
-pub item_count_again : (item : List ℕ) (count : ℕ) → length item ≤ 1048576 → count < 2 ^ 64 → item_count_of (spelled_item_count item count) ≡ Some (item, count)
-unfolding item_count_of
-item_count_again item count short lt =
-    let bytes = spelled_item_count item count in
-    let one = pair_again body_reading number_reading item count (spelled_body item) (spelled_number count) [] (body_again item (spelled_number count ++ []) short) (number_again count [] lt) in
-    let read : pair_reading body_reading number_reading bytes ≡ Ok ((item, count), length bytes) = ap (pair_reading body_reading number_reading) (sym (append-nil bytes)) ∙ one in
-    whole_again (pair_reading body_reading number_reading) bytes (item, count) read
-
-pub item_count_spelled : (bytes item : List ℕ) (count : ℕ) → AreBytes bytes → item_count_of bytes ≡ Some (item, count) → (length item ≤ 1048576) × (count < 2 ^ 64) × (bytes ≡ spelled_item_count item count)
-unfolding item_count_of
-item_count_spelled bytes item count fit e =
-    let read = whole_is (pair_reading body_reading number_reading) bytes (item, count) e in
-    let p = pair_spelled body_reading number_reading (λ body. (length body ≤ 1048576) × AreBytes body) (λ n. n < 2 ^ 64) spelled_body spelled_number body_spelled number_spelled bytes (item, count) (length bytes) fit read in
-    (p.0.0.0, p.0.1, sym (take-length bytes) ∙ p.1)

@@ -1,7 +1,6 @@
 pub mod Bytes
 pub mod Count
 pub mod Cut
-pub mod ItemCount
 pub mod Laws
 pub mod Letter
 pub mod Placed

@@ -1,4 +1,4 @@
--- Letters as they lie in bytes, each at a place of its own.
+-- The letters that bytes encode, each at its place.
 use Rattle.std.specs.Prelude.{◌≡◌, ℕ, ◌+◌, ◌<◌, ◌≤◌, ◌^◌, List, [], ◌∷◌, length, take, drop, map, slice_index, All}
 use Rattle.std.specs.Int.{w32, from_le_bytes}
 use Rattle.msg_codec.specs.declared.letter.Letter.{Letter}
@@ -13,7 +13,7 @@ pub record Fits (l : Letter) : Type 0 where
   pub body_short : length l.body ≤ 1048576
   pub bytes_fit : AreBytes l.body
 
--- what the length field says of the letter that the bytes begin with
+-- the length of the body of the letter that the bytes begin with, by its length field
 unfoldable pub told_length : List ℕ → ℕ
 told_length bytes = from_le_bytes w32 (drop 9 bytes)
 
@@ -30,17 +30,17 @@ first_letter bytes = record {
 abbrev pub letters_at : List ℕ → List ℕ → List Letter
 letters_at bytes places = map (λ place. first_letter (drop place bytes)) places
 
--- where the letters in the bytes begin: the first, where there are bytes, at 0, and then the later ones
+-- the places at which the letters of the bytes begin: the first, if there are bytes, at 0, and then the later ones
 abbrev pub starts_of : List ℕ → List ℕ → List ℕ
 starts_of [] later = later
 starts_of (b ∷ bytes) later = 0 ∷ later
 
--- where each of the letters begins, the first at the number given
+-- the place at which each of the letters begins, the first at this one
 abbrev pub places_from : ℕ → List Letter → List ℕ
 places_from place [] = []
 places_from place (l ∷ letters) = place ∷ places_from (place + length (spelled_letter l)) letters
 
--- the bytes spell the letters that begin at the places, and nothing else
+-- the bytes encode the letters that begin at the places, and nothing else
 pub record IsBatch (bytes places : List ℕ) : Type 0 where
   pub spelled : bytes ≡ spelling (letters_at bytes places)
   pub placed : places ≡ places_from 0 (letters_at bytes places)

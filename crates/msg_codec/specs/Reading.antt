@@ -1,4 +1,4 @@
--- Reading a value from the front of bytes: the value and the length of its spelling, or the first fault that is met.
+-- Decoding a value from the beginning of bytes: the value and the length of its encoding, or the first fault met.
 use Rattle.std.specs.Prelude.{◌≡◌, ℕ, ◌+◌, List, length, take, drop, Option, Some, None, Result, Ok, Err, nat_lt, ◌==◌, if◌then◌else◌}
 use Rattle.std.specs.Int.{w32, w64, from_le_bytes}
 use Rattle.msg_codec.specs.declared.wire.WireFault.{WireFault}
@@ -13,7 +13,7 @@ abbrev pub ◌>>=◌ : {A B : Type 0} → Result A WireFault → (A → Result B
 unfoldable pub number_reading : List ℕ → Result (ℕ × ℕ) WireFault
 number_reading bytes = if nat_lt (length bytes) 8 then Err Short else Ok (from_le_bytes w64 bytes, 8)
 
--- The length that the first four bytes tell, and then that many bytes.
+-- The length that the first four bytes encode, and then that many bytes.
 unfoldable pub told : List ℕ → ℕ
 told bytes = from_le_bytes w32 bytes
 
@@ -31,7 +31,7 @@ pair_reading first second bytes = do
   b ← second (drop a.1 bytes)
   Ok ((a.0, b.0), a.1 + b.1)
 
--- What a function answered, seen by view, is what reading gives, unless memory ran out.
+-- What a function returned, seen by view, is what decoding gives, unless it is out of memory.
 abbrev pub Fails : {Y : Type 0} → WireFault → Result Y WireFault → Type 0
 Fails NoMemory read = Unit {0}
 Fails Short read = read ≡ Err Short
@@ -44,12 +44,12 @@ GivesAs view (Err e) read = Fails e read
 abbrev pub Gives : {X : Type 0} → Result X WireFault → Result X WireFault → Type 0
 Gives {X} result read = GivesAs (λ (x : X). x) result read
 
--- What a function that takes no memory answered, seen by view, is what reading gives.
+-- What a function that takes no memory returned, seen by view, is what decoding gives.
 abbrev pub IsReading : {X Y : Type 0} → (X → Y) → Result X WireFault → Result Y WireFault → Type 0
 IsReading view (Ok x) read = read ≡ Ok (view x)
 IsReading view (Err fault) read = read ≡ Err fault
 
--- The value whose spelling is all of the bytes.
+-- The value whose encoding is all of the bytes.
 abbrev pub if_whole : {A : Type 0} → ℕ → Result (A × ℕ) WireFault → Option A
 if_whole len (Ok found) = if found.1 == len then Some found.0 else None
 if_whole len (Err fault) = None

@@ -1,4 +1,5 @@
--- The bytes of letters: each its header and its body, one letter after another, nothing between.
+-- The encodings of letters and of the values in their bodies. A letter is its header and its body; letters come one after another, with
+-- nothing between them.
 use Rattle.std.specs.Prelude.{ℕ, List, ◌∷◌, ◌++◌, length}
 use Rattle.std.specs.Int.{w32, w64, to_le_bytes}
 use Rattle.std.specs.List.{flat_map}

@@ -11,8 +11,8 @@ use crate::letter::HEADER_LEN;
 use std::alloc::{AllocError, Global};
 use std::marker::Model;
 
-/// A list of letters, kept as it is sent: the letters' spellings, one after another. The first begins
-/// at 0, so that a batch of one letter keeps no start.
+/// A list of letters, kept as it is sent: the letters' encodings, one after another. The first begins at 0,
+/// so that a batch of one letter keeps no start.
 #[derive(Debug, Drop)]
 pub struct Batch {
     bytes: Vec<u8>,
@@ -45,7 +45,7 @@ fn header_of(letter: &LetterRef<'_>) -> [u8; 13]
     ]
 }
 
-/// Appends the letter's spelling, or nothing where memory runs out.
+/// Appends the letter's encoding, or nothing if out of memory.
 fn append(bytes: &mut Vec<u8>, letter: &LetterRef<'_>) -> Result<(), AllocError>
     ensures ok { OnOk result (bytes.new.items ≡ bytes.old.items ++ spelled_letter (letter_of letter.now)) }
     ensures err { OnErr result (bytes.new.items ≡ bytes.old.items) }
@@ -107,7 +107,7 @@ impl Batch {
         }
     }
 
-    /// Puts a letter last. Where memory runs out, the batch stays as it was.
+    /// Puts a letter last. Out of memory, the batch is unchanged.
     pub fn push(&mut self, letter: LetterRef<'_>) -> Result<(), AllocError>
         ensures last { OnOk result (self.new ≡ self.old ++ letter_of letter.entry ∷ []) }
         ensures unchanged { OnErr result (self.new ≡ self.old) }
@@ -142,14 +142,14 @@ impl Batch {
         self.later_starts.len() as u64 + 1
     }
 
-    /// The number of the bytes that spell it.
+    /// The length of its encoding.
     pub fn bytes_len(&self) -> usize
         ensures { result ≡ length (spelling self.now) }
     {
         self.bytes.len()
     }
 
-    /// The letter at place `k`, counted from 0. It is found at once and not copied.
+    /// The letter at place `k`, counted from 0, in constant time and without a copy.
     pub fn letter_at(&self, k: u64) -> LetterRef<'_>
         requires { k < length self.now }
         ensures { slice_get self.now k ≡ Some (letter_of result) }
@@ -158,7 +158,7 @@ impl Batch {
         read_at(&self.bytes, start)
     }
 
-    /// The spelling of its letters.
+    /// The encoding of its letters.
     pub fn as_bytes(&self) -> &[u8]
         ensures spelled { result.now ≡ spelling self.now }
         ensures fit { All Fits self.now }

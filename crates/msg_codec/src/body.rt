@@ -90,9 +90,9 @@ impl Body2 {
     }
 }
 
-/// The length of a body, spelled.
-pub(crate) fn length_field(body: &[u8]) -> [u8; 4]
-    requires { length body.now ≤ 1048576 }
+/// The encoded length of a body, which stands before its bytes.
+pub fn length_field(body: &[u8]) -> [u8; 4]
+    requires { length body.now ≤ MAX_BODY }
     ensures value { result ≡ to_le_bytes w32 (length body.now) }
     ensures bytes { AreBytes body.now }
 {

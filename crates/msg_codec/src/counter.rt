@@ -39,7 +39,7 @@ impl Model for AtLimit {
 }
 
 impl Counter {
-    /// A counter that stands at 0.
+    /// A counter at 0.
     pub fn new(limit: u64) -> Counter
         ensures zero { result.count ≡ 0 }
         ensures limit { result.limit ≡ limit }
@@ -47,8 +47,7 @@ impl Counter {
         Counter { count: 0, limit }
     }
 
-    /// Adds `by`. It is refused where the sum would be above the limit, and the counter then stands as
-    /// it was.
+    /// Adds `by`. It refuses a sum above the limit, and then the counter is unchanged.
     pub fn raise(&mut self, by: u64) -> Result<(), AtLimit>
         requires at_least_one { 1 ≤ by }
         requires few { by ≤ 64 }
@@ -65,7 +64,7 @@ impl Counter {
         Ok(())
     }
 
-    /// Where it stands.
+    /// The count.
     pub fn count(&self) -> u64
         ensures value { result ≡ self.now.count }
         ensures within { self.now.count ≤ self.now.limit }
@@ -75,7 +74,7 @@ impl Counter {
 }
 
 impl AtLimit {
-    /// The limit of the counter that gave it.
+    /// The limit of the counter that returned it.
     pub fn limit(&self) -> u64
         ensures { result ≡ self.now }
     {

@@ -3,11 +3,11 @@ ghost use Rattle.std.specs.Prelude.{◌≡◌, ◌≤◌, length};
 
 use crate::Body;
 
-/// The number of bytes of a letter's spelling before its body.
+/// The number of bytes of a letter's encoding before its body.
 pub(crate) const HEADER_LEN: usize = 13;
 
-/// A message of its own: the rank that it goes to, the rank that sent it, the tag that says what its
-/// body is, and the body.
+/// An owned message: the rank that it goes to, the rank that sent it, the tag that says what its body is,
+/// and the body.
 #[derive(Debug, Drop)]
 pub struct Letter {
     pub to: u32,
@@ -16,7 +16,7 @@ pub struct Letter {
     pub body: Body,
 }
 
-/// A message that lies elsewhere, as in a batch. Its body has at most `MAX_BODY` bytes.
+/// A borrowed message, as from a batch. Its body has at most `MAX_BODY` bytes.
 #[derive(Clone, Copy, Debug)]
 pub struct LetterRef<'a> {
     pub to: u32,
@@ -45,7 +45,7 @@ impl LetterRef<'_> {
     ghost use Rattle.msg_codec.specs.Letter.{letter_of};
     ghost use Rattle.msg_codec.specs.Spelling.{spelled_letter};
 
-    /// The number of bytes of its spelling: those before its body and those of its body.
+    /// The length of its encoding: the bytes before its body and those of its body.
     pub fn spelled_len(&self) -> usize
         ensures { result ≡ length (spelled_letter (letter_of self.now)) }
     {

@@ -46,7 +46,7 @@ impl Letters {
         self.batch.count()
     }
 
-    /// The letter at place `k`, counted from 0. It is found at once and not copied.
+    /// The letter at place `k`, counted from 0, in constant time and without a copy.
     pub fn letter_at(&self, k: u64) -> LetterRef<'_>
         requires { k < length self.now }
         ensures { slice_get self.now k ≡ Some (letter_of result) }

@@ -101,16 +101,13 @@ fn the_first_fault_is_answered(rt: HostRuntime) {
 }
 
 #[test]
-fn an_item_and_its_count(rt: HostRuntime) -> Result<(), Fail> {
-    let mut bytes = Vec::new(rt.alloc());
-    put_item_count(b"x", 1, &mut bytes)?;
-    assert_eq!(rt; bytes.as_slice(), X_ONCE.as_slice());
-    let (item, count) = read_item_count(&X_ONCE).ok_or("it is an item and a count")?;
-    assert_eq!(rt; item, b"x".as_slice());
-    assert_eq!(rt; count, 1);
-    assert!(rt; read_item_count(&X_ONCE[..12]).is_none());
-    bytes.push(0)?;
-    assert!(rt; read_item_count(&bytes).is_none());
+fn values_are_read_without_a_copy(rt: HostRuntime) -> Result<(), Fail> {
+    assert_eq!(rt; length_field(b"x"), [1, 0, 0, 0]);
+    let (body, len) = body_at(&X_ONCE)?;
+    assert_eq!(rt; body, b"x".as_slice());
+    assert_eq!(rt; len, 5);
+    let (number, more) = number_at(&X_ONCE[5..])?;
+    assert_eq!(rt; (number, more), (1, 8));
     Ok(())
 }
 
@@ -155,7 +152,4 @@ fn the_laws_hold_at_the_types_of_bodies() {
     no_spelling_begins_another::<(Body, u64)>();
     what_was_put_is_read_again::<(Body, u64)>();
     no_two_lists_are_spelled_alike();
-    item_counts_are_pairs();
-    item_counts_are_read_again();
-    no_two_item_counts_are_spelled_alike();
 }

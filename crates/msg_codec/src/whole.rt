@@ -1,11 +1,11 @@
-//! Values that are spelled by all of some bytes, as the body of a letter is.
+//! Values that a whole body encodes.
 ghost use Rattle.std.specs.Prelude.{◌≡◌, ◌≢◌, IfOk, IfSome, IfNone};
 ghost use Rattle.msg_codec.specs.Reading.{whole};
 
 use crate::{Wire, WireFault};
 use std::alloc::{AllocError, Global};
 
-/// The value that the body is the spelling of. `None` where it is no spelling, or has bytes left over.
+/// The value that the whole body encodes. `None` if it encodes none, or if bytes remain after it.
 pub fn read_whole<W: Wire>(alloc: Global, body: &[u8]) -> Result<Option<W>, AllocError>
     ensures found { IfOk result (λ read. IfSome read (λ value. body.now ≡ W.spelled value)) }
     ensures range { IfOk result (λ read. IfSome read W.in_range) }

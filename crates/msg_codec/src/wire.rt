@@ -1,4 +1,4 @@
-//! Values as they are spelled in the bodies of letters.
+//! Values as they are encoded in the bodies of letters.
 ghost use Rattle.std.specs.Prelude.{◌≡◌, ◌≢◌, ◌<◌, ◌≤◌, ◌+◌, ◌^◌, ℕ, List, [], ◌++◌, length, take, Result, Ok, Err, IfOk, OnOk, OnErr};
 ghost use Rattle.std.specs.Int.{to_le_bytes};
 ghost use Rattle.msg_codec.specs.declared.wire.WireFault.{WireFault};
@@ -19,7 +19,7 @@ pub enum WireFault {
     /// A length is above its limit, or a byte is out of its range.
     #[error("a length or a byte is out of range")]
     TooLong,
-    /// Memory ran out.
+    /// Out of memory.
     #[error("out of memory")]
     NoMemory,
 }
@@ -32,51 +32,51 @@ impl From<AllocError> for WireFault {
     }
 }
 
-/// A type whose values have one spelling each.
+/// A type whose values have one encoding each.
 pub trait Wire: Drop {
     /// Which values are in the type's range.
     ghost in_range: { Self → Type 0 };
 
-    /// The bytes that spell a value.
+    /// The encoding of a value.
     ghost spelled: { Self → List ℕ };
 
-    /// What reading from the front of bytes gives: the value whose spelling stands there and the length
-    /// of that spelling, or the first fault that is met.
+    /// What decoding from the beginning of bytes gives: the value and the length of its encoding, or the first
+    /// fault met.
     ghost reading: { List ℕ → Result (Self × ℕ) WireFault };
 
-    /// Appends the spelling. Where memory runs out, nothing is appended.
+    /// Appends the encoding. Out of memory, it appends nothing.
     fn put(&self, into: &mut Vec<u8>) -> Result<(), AllocError>
         ensures appended { OnOk result (into.new.items ≡ into.old.items ++ spelled self.now) }
         ensures unchanged { OnErr result (into.new.items ≡ into.old.items) }
         ensures range { OnOk result (in_range self.now) };
 
-    /// Reads the value whose spelling the bytes begin with, and tells the spelling's length. Fields are
-    /// read from the front, and the fault is that of the first field that cannot be read.
+    /// Returns the value that the bytes begin with, and the length of its encoding. Fields are decoded in
+    /// order, and the fault is that of the first field that can't be decoded.
     fn get(alloc: Global, from: &[u8]) -> Result<(Self, usize), WireFault>
         ensures exact { Gives result (reading from.now) }
         ensures front { IfOk result (λ found. take found.1 from.now ≡ spelled found.0) }
         ensures within { IfOk result (λ found. found.1 ≤ length from.now) }
         ensures range { IfOk result (λ found. in_range found.0) };
 
-    /// What was put is read again, whatever follows it.
+    /// What was put is decoded again, whatever follows it.
     ghost read_again: { (value : Self) (rest : List ℕ) → in_range value → reading (spelled value ++ rest) ≡ Ok (value, length (spelled value)) };
 
-    /// What is read is spelled so.
+    /// What is decoded was encoded so.
     ghost read_spelled: { (bytes : List ℕ) (value : Self) (len : ℕ) → AreBytes bytes → reading bytes ≡ Ok (value, len) → in_range value × (take len bytes ≡ spelled value) × (len ≤ length bytes) };
 
-    /// Where the bytes end before a spelling does, they are short.
+    /// Bytes that end before an encoding does are too short.
     ghost short_where_cut: { (value : Self) (front back : List ℕ) → in_range value → spelled value ≡ front ++ back → back ≢ [] → reading front ≡ Err Short };
 
-    /// Where the bytes are short, more bytes end that: short is said only for want of bytes.
+    /// Bytes are too short only where more bytes would help.
     ghost short_wants_bytes: { (bytes : List ℕ) → AreBytes bytes → reading bytes ≡ Err Short → (more : List ℕ) × AreBytes more × (reading (bytes ++ more) ≢ Err Short) };
 
-    /// What is too long stays so, whatever follows it.
+    /// A length above its limit stays refused, whatever follows.
     ghost too_long_stays: { (bytes more : List ℕ) → AreBytes bytes → reading bytes ≡ Err TooLong → reading (bytes ++ more) ≡ Err TooLong };
 }
 
-/// The number that the bytes begin with, and the length of its spelling.
+/// The number that the bytes begin with, and the length of its encoding; or `WireFault::Short`.
 #[tactic(auto, unfolding(crate::specs::Reading::number_reading))]
-pub(crate) fn number_at(from: &[u8]) -> Result<(u64, usize), WireFault>
+pub fn number_at(from: &[u8]) -> Result<(u64, usize), WireFault>
     ensures exact { IsReading (λ found. found) result (number_reading from.now) }
     ensures front { IfOk result (λ found. take found.1 from.now ≡ spelled_number found.0) }
     ensures within { IfOk result (λ found. found.1 ≤ length from.now) }
@@ -90,9 +90,9 @@ pub(crate) fn number_at(from: &[u8]) -> Result<(u64, usize), WireFault>
     Ok((number, 8))
 }
 
-/// The body that the bytes begin with, and the length of its spelling.
+/// The bytes of the body that the bytes begin with, and the length of its encoding; or the first fault.
 #[tactic(auto, unfolding(crate::specs::Reading::body_reading, crate::specs::Reading::told))]
-pub(crate) fn body_at(from: &[u8]) -> Result<(&[u8], usize), WireFault>
+pub fn body_at(from: &[u8]) -> Result<(&[u8], usize), WireFault>
     ensures exact { IsReading (λ found. (found.0.now, found.1)) result (body_reading from.now) }
     ensures front { IfOk result (λ found. take found.1 from.now ≡ spelled_body found.0.now) }
     ensures within { IfOk result (λ found. found.1 ≤ length from.now) }
@@ -114,7 +114,7 @@ pub(crate) fn body_at(from: &[u8]) -> Result<(&[u8], usize), WireFault>
     Ok((body, 4 + len))
 }
 
-/// Appends the spelling of a body, or nothing where memory runs out.
+/// Appends the encoding of a body, or nothing if out of memory.
 fn put_body(body: &[u8], into: &mut Vec<u8>) -> Result<(), AllocError>
     requires { length body.now ≤ 1048576 }
     ensures appended { OnOk result (into.new.items ≡ into.old.items ++ spelled_body body.now) }

@@ -23,7 +23,7 @@ use Rattle.comm_rank.specs.Rank.{Rank, fresh_rank, local_of, ran_at, ran_from}
 use Rattle.comm_rank.specs.Settled.{IsRankOf}
 use Rattle.counting_set.specs.Counting.{Counts, counting_apply, AreCounted}
 use Rattle.counting_set.specs.Owner.{fnv, owner_of_key}
-use Rattle.counting_set.proofs.Counted.{adds_of_one_are_counted}
+use Rattle.counting_set.proofs.Counts.Counted.{adds_of_one_are_counted}
 use Rattle.ygm_run.specs.Limits.{max_ranks, most_letters}
 use Rattle.ygm_run.specs.Carried.{AreReady, Carried, IsQuiet, kept, letters_of}
 use Rattle.ygm_run.specs.TallyText.{AreCounts, all_lines, times}

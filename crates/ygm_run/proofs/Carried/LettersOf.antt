@@ -3,12 +3,12 @@ use Rattle.std.proofs.Common.{◌≡◌, inl, inr, ℕ, ◌+◌, ◌≤◌, eqb,
 use Rattle.std.specs.List.{AllByRecursion, filter}
 use Rattle.std.proofs.lemmas.List.{length-map}
 use Rattle.std.proofs.lemmas.List.Sums.{sum_by-cons}
+use Rattle.list_facts.proofs.Equal.{bytes_eq-other, cases_same}
 use Rattle.msg_codec.specs.declared.letter.Letter.{Letter}
 use Rattle.counting_set.specs.Counting.{adds, add_letter}
 use Rattle.counting_set.specs.Owner.{owner_of_key}
-use Rattle.list_facts.proofs.Equal.{bytes_eq-other, cases_same}
 use Rattle.list_facts.proofs.Filters.{filter_fewer}
-use Rattle.counting_set.proofs.Sums.{add_letter_adds}
+use Rattle.counting_set.proofs.Counts.Inserts.{add_letter_adds}
 use Rattle.ygm_run.specs.Limits.{max_line}
 use Rattle.ygm_run.specs.Carried.{letters_of}
 use Rattle.ygm_run.specs.TallyText.{times}

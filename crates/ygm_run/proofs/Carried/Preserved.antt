@@ -24,7 +24,7 @@ use Rattle.comm_rank.proofs.Settling.{ran_begins_always}
 use Rattle.comm_rank.proofs.Stops.{same_stopped}
 use Rattle.counting_set.specs.Counting.{Counts, counting_apply, add_letter}
 use Rattle.counting_set.specs.Owner.{owner_of_key}
-use Rattle.counting_set.proofs.Sums.{handed-none}
+use Rattle.counting_set.proofs.Counts.After.{handed-none}
 use Rattle.ygm_run.specs.Carried.{AreFresh, AreReady, Carried, IsQuietFrom, letters_of, sent_counts, with_line}
 
 -- the element at the place that was changed

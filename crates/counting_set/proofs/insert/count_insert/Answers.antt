@@ -1,7 +1,7 @@
 use Rattle.std.proofs.Common.{◌≡◌, ◌∷◌, [], ◌++◌, List, OnOk, sym, ap, ◌∙◌, subst}
-use Rattle.msg_codec.specs.ItemCount.{spelled_item_count}
 use Rattle.world_core.specs.declared.entry.Entry.{Entry}
 use Rattle.comm_rank.specs.Rank.{sent_to}
+use Rattle.counting_set.specs.ItemCount.{spelled_item_count}
 use Rattle.counting_set.specs.Owner as spec
 use Rattle.counting_set.proofs.insert.count_insert.Goals as goal
 

@@ -1,5 +1,5 @@
-use Rattle.counting_set.proofs.Adding.{count_in-added_other}
-use Rattle.counting_set.proofs.Placed.{items-known, items-new}
+use Rattle.counting_set.proofs.Counts.CountIn.{count_in-added_other}
+use Rattle.counting_set.proofs.Counts.Order.{items-known, items-new}
 use Rattle.counting_set.proofs.laws.a_new_item_goes_last.Goals as goal
 
 pub returns-clause-known : goal.returns-clause-known

@@ -1,4 +1,4 @@
-use Rattle.counting_set.proofs.Sums.{add_letter_adds}
+use Rattle.counting_set.proofs.Counts.Inserts.{add_letter_adds}
 use Rattle.counting_set.proofs.laws.an_insert_adds_one.Goals as goal
 
 pub returns-clause-adds : goal.returns-clause-adds

@@ -1,4 +1,4 @@
-use Rattle.counting_set.proofs.Placed.{no_item_stands_twice}
+use Rattle.counting_set.proofs.Counts.Distinct.{no_item_stands_twice}
 use Rattle.counting_set.proofs.laws.no_item_stands_twice.Goals as goal
 
 pub returns : goal.returns

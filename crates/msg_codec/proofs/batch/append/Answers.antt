@@ -1,6 +1,6 @@
 use Rattle.std.proofs.Common.{◌∙◌, ap, List, ℕ, ◌++◌}
 use Rattle.msg_codec.specs.Letter.{letter_of}
-use Rattle.msg_codec.proofs.Placed.{appended}
+use Rattle.msg_codec.proofs.Placed.Pushed.{appended}
 use Rattle.msg_codec.proofs.batch.append.Goals as goal
 
 pub returns-clause-ok : goal.returns-clause-ok

@@ -1,6 +1,6 @@
 use Rattle.std.proofs.Common.{◌≡◌, arith, ◌∙◌, ap, refl, take}
 use Rattle.msg_codec.specs.Placed.{told_length}
-use Rattle.msg_codec.proofs.Placed.{told_is, first_is}
+use Rattle.msg_codec.proofs.Placed.First.{told_is, first_is}
 use Rattle.msg_codec.proofs.batch.read_first.Goals as goal
 
 pub split_at-requires-2 : goal.split_at-requires-2

@@ -1,5 +1,5 @@
 use Rattle.std.proofs.Common.{arith}
-use Rattle.msg_codec.proofs.Bytes.{are_bytes}
+use Rattle.msg_codec.proofs.Bytes.Slices.{are_bytes}
 use Rattle.msg_codec.proofs.body.length_field.Goals as goal
 
 pub returns-clause-bytes : goal.returns-clause-bytes

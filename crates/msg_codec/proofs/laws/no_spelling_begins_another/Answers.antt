@@ -1,4 +1,4 @@
-use Rattle.msg_codec.proofs.Apart.{apart}
+use Rattle.msg_codec.proofs.Reading.Apart.{apart}
 use Rattle.msg_codec.proofs.laws.no_spelling_begins_another.Goals as goal
 
 pub returns : goal.returns

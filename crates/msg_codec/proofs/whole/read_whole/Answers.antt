@@ -1,5 +1,5 @@
 use Rattle.std.proofs.Common.{rules, None, Ok}
-use Rattle.msg_codec.proofs.Apart.{none_is}
+use Rattle.msg_codec.proofs.Reading.Whole.{none_is}
 use Rattle.msg_codec.proofs.whole.read_whole.Goals as goal
 
 pub returns-in_default-clause-none : goal.returns-in_default-clause-none

@@ -2,7 +2,7 @@ use Rattle.std.proofs.Common.{ap, sym, refl, ◌∙◌, Vec, ℕ, Global, Bool}
 use Rattle.std.specs.Prelude.{bytes_eq}
 use Rattle.indexmap.specs.IndexMap.{insert_entry}
 use Rattle.counting_set.specs.Counting.{added}
-use Rattle.counting_set.proofs.Entries.{seen, added-set_value, added-insert_entry}
+use Rattle.counting_set.proofs.Counts.Map.{seen, added-set_value, added-insert_entry}
 use Rattle.counting_set.proofs.counting.Counting.add.Goals as goal
 
 pub returns-in-Some-clause-ok : goal.returns-in-Some-clause-ok

@@ -1,7 +1,7 @@
 use Rattle.std.proofs.Common.{ap, ◌∙◌}
 use Rattle.std.specs.Prelude.{unwrap_or}
 use Rattle.counting_set.specs.Counting.{count_in}
-use Rattle.counting_set.proofs.Entries.{count_in-lookup}
+use Rattle.counting_set.proofs.Counts.Map.{count_in-lookup}
 use Rattle.counting_set.proofs.counting.Counting.count_here.Goals as goal
 
 pub returns : goal.returns

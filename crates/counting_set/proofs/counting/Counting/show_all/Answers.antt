@@ -1,6 +1,6 @@
 use Rattle.std.proofs.Common.{of_calls, refl}
+use Rattle.list_facts.proofs.Steps.{FoldsTo-next}
 use Rattle.counting_set.specs.Shown.{ShownTo}
-use Rattle.counting_set.proofs.Steps.{FoldsTo-next}
 use Rattle.counting_set.proofs.counting.Counting.show_all.Goals as goal
 
 pub loop-k-preserved : goal.loop-k-preserved

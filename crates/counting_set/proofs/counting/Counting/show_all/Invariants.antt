@@ -3,7 +3,7 @@ use Rattle.std.specs.List.{FoldsTo}
 use Rattle.counting_set.specs.Shown.{ShownTo}
 use Rattle.counting_set.proofs.counting.Counting.show_all.Given as goal
 
--- where the calls at the rest end, the calls at all end
+-- the calls at the remaining items end where the calls at all items end
 abbrev pub invariant-loop-k : goal.invariant-loop-k
 invariant-loop-k g l =
     goal.F-IsAlwaysCallable g l.f

@@ -1,5 +1,5 @@
 use Rattle.std.proofs.Common.{arith}
-use Rattle.msg_codec.proofs.Placed.{none_counted}
+use Rattle.msg_codec.proofs.Placed.Held.{none_counted}
 use Rattle.msg_codec.proofs.batch.Batch.count.Goals as goal
 
 pub returns-then-is_empty : goal.returns-then-is_empty

@@ -1,7 +1,7 @@
 use Rattle.std.proofs.Common.{◌∙◌, ap, drop, ◌≡◌}
 use Rattle.msg_codec.specs.Letter.{letter_of}
 use Rattle.msg_codec.specs.Placed.{first_letter}
-use Rattle.msg_codec.proofs.Placed.{start_is, held, found}
+use Rattle.msg_codec.proofs.Placed.Held.{found, held, start_is}
 use Rattle.msg_codec.proofs.batch.Batch.letter_at.Goals as goal
 
 pub read_at-requires : goal.read_at-requires

@@ -1,6 +1,6 @@
 use Rattle.std.proofs.Common.{rules}
 use Rattle.msg_codec.specs.Letter.{letter_of}
-use Rattle.msg_codec.proofs.Placed.{first_put, later_put}
+use Rattle.msg_codec.proofs.Placed.Pushed.{first_put, later_put}
 use Rattle.msg_codec.proofs.batch.Batch.push.Goals as goal
 
 pub invariant_of-self : goal.invariant_of-self

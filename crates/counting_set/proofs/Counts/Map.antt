@@ -1,4 +1,4 @@
--- The entries of a map from items to counts, seen as a counting set.
+-- The entries of a map from items to counts, as a counting set.
 use Rattle.std.proofs.Common.{◌≡◌, inl, inr, ℕ, ◌+◌, Bool, cond, List, [], ◌∷◌, map, Some, None, refl, sym, ap, ◌∙◌}
 use Rattle.std.specs.Prelude.{bytes_eq, unwrap_or}
 use Rattle.std.specs.Map.{lookup, set_value}

@@ -1,22 +1,8 @@
--- What adding to a counting set does to the counts of items.
-use Rattle.std.proofs.Common.{◌≡◌, ◌≢◌, ◌⊎◌, inl, inr, ℕ, ◌+◌, ◌^◌, ◌<◌, Bool, true, false, List, [], ◌∷◌, refl, sym, ap, ◌∙◌, true≢false, arith}
+-- The count of an item after an add.
+use Rattle.std.proofs.Common.{◌≡◌, ◌≢◌, inl, inr, ℕ, ◌+◌, ◌^◌, ◌<◌, List, [], ◌∷◌, refl, sym, ap, ◌∙◌, arith}
 use Rattle.std.specs.Prelude.{bytes_eq}
-use Rattle.std.proofs.lemmas.Bool.{false_from_ne_true}
-use Rattle.std.proofs.lemmas.Slice.Eq.{bytes_eq-Decides}
+use Rattle.list_facts.proofs.Equal.{bytes_eq-other, bytes_eq-same, cases_same}
 use Rattle.counting_set.specs.Counting.{Counts, held, added, count_in}
-
-pub bytes_eq-same : (x : List ℕ) → bytes_eq x x ≡ true
-bytes_eq-same x = (bytes_eq-Decides x x).1 refl
-
-pub bytes_eq-other : (x y : List ℕ) → x ≢ y → bytes_eq x y ≡ false
-bytes_eq-other x y other = false_from_ne_true (bytes_eq x y) (λ e. other ((bytes_eq-Decides x y).0 e))
-
-pub cases_same : (x y : List ℕ) → (x ≡ y) ⊎ (x ≢ y)
-cases_same x y = by (bytes_eq x y) refl
-  where
-    by : (b : Bool) → bytes_eq x y ≡ b → (x ≡ y) ⊎ (x ≢ y)
-    by true e = inl ((bytes_eq-Decides x y).0 e)
-    by false e = inr (λ same. true≢false (sym ((bytes_eq-Decides x y).1 same) ∙ e))
 
 pub count_in-first : (item : List ℕ) (c : ℕ) (es : Counts) → count_in ((item, c) ∷ es) item ≡ c
 count_in-first item c es = rw (bytes_eq-same item) refl

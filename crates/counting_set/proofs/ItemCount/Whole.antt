@@ -1,11 +1,11 @@
--- What an item and its count are the spelling of, where they were looked for in all of the bytes.
+-- What is found where an item and its count are looked for in all of the bytes.
 use Rattle.std.proofs.Common.{◌≡◌, ◌≢◌, ℕ, ◌^◌, ◌<◌, ◌≤◌, List, length, Option, Some, None, Bor, sym, ap, ◌∙◌}
 use Rattle.std.specs.Prelude.{IfSome, IfNone}
 use Rattle.std.specs.Option.{option_map}
 use Rattle.std.proofs.lemmas.Option.{none-some}
 use Rattle.msg_codec.specs.Bytes.{AreBytes}
-use Rattle.msg_codec.specs.ItemCount.{spelled_item_count, item_count_of}
-use Rattle.msg_codec.specs.Laws.{item_count_again, item_count_spelled}
+use Rattle.counting_set.specs.ItemCount.{item_count_of, spelled_item_count}
+use Rattle.counting_set.proofs.ItemCount.Again.{item_count_again, item_count_spelled}
 
 abbrev pub seen : Option (Bor (List ℕ) × ℕ) → Option (List ℕ × ℕ)
 seen o = option_map (λ found. (found.0.now, found.1)) o

@@ -1,15 +1,14 @@
-//! An item and how many of it, as the letters that add to a counting set carry them.
+//! How an item and its count are encoded in the body of a letter that adds to a counting set.
 ghost use Rattle.std.specs.Prelude.{◌≡◌, ◌≢◌, ◌<◌, ◌≤◌, ◌^◌, ℕ, List, ◌++◌, length, IfSome, IfNone, OnOk, OnErr};
 ghost use Rattle.std.specs.Option.{option_map};
-ghost use Rattle.msg_codec.specs.Reading.{IsReading, number_reading, body_reading, pair_reading};
-ghost use Rattle.msg_codec.specs.ItemCount.{spelled_item_count, item_count_of};
+ghost use Rattle.msg_codec.specs.Reading.{IsReading, body_reading, number_reading, pair_reading};
+ghost use Rattle.counting_set.specs.ItemCount.{item_count_of, spelled_item_count};
 
-use crate::body::{MAX_BODY, length_field};
-use crate::wire::{WireFault, body_at, number_at};
+use msg_codec::{MAX_BODY, WireFault, body_at, length_field, number_at};
 use std::alloc::AllocError;
 
-/// Appends the spelling of an item and its count, as `Wire::put` of the pair does, from an item that
-/// lies elsewhere. Where memory runs out, nothing is appended.
+/// Appends the encoding of a borrowed item and its count, which is that of the pair of them. Out of memory,
+/// it appends nothing.
 pub fn put_item_count(item: &[u8], count: u64, into: &mut Vec<u8>) -> Result<(), AllocError>
     requires { length item.now ≤ MAX_BODY }
     ensures appended { OnOk result (into.new.items ≡ into.old.items ++ spelled_item_count item.now count) }
@@ -22,8 +21,8 @@ pub fn put_item_count(item: &[u8], count: u64, into: &mut Vec<u8>) -> Result<(),
     Ok(())
 }
 
-/// The item and the count that the bytes begin with, and the length of their spelling.
-#[tactic(auto, unfolding(crate::specs::Reading::pair_reading))]
+// The item and the count that the bytes begin with, and the length of their encoding.
+#[tactic(auto, unfolding(msg_codec::specs::Reading::pair_reading))]
 fn item_count_at(from: &[u8]) -> Result<((&[u8], u64), usize), WireFault>
     ensures { IsReading (λ found. ((found.0.0.now, found.0.1), found.1)) result (pair_reading body_reading number_reading from.now) }
 {
@@ -33,8 +32,8 @@ fn item_count_at(from: &[u8]) -> Result<((&[u8], u64), usize), WireFault>
     Ok(((item, count), len + more))
 }
 
-/// The item and the count that the body is the spelling of. `None` where it is no such spelling, be it
-/// too short, too long or of a length that no item has.
+/// The item and the count that the whole body encodes, or `None`: the body may be too short, too long, or
+/// start with a length above the limit.
 #[tactic(auto, unfolding(crate::specs::ItemCount::item_count_of))]
 pub fn read_item_count(body: &[u8]) -> Option<(&[u8], u64)>
     ensures found { IfSome result (λ found. body.now ≡ spelled_item_count found.0.now found.1) }
@@ -47,3 +46,6 @@ pub fn read_item_count(body: &[u8]) -> Option<(&[u8], u64)>
         _ => None,
     }
 }
+
+#[cfg(test)]
+mod tests;

@@ -1,50 +1,21 @@
 -- Where one of each line is added, each line is there once, with the number of lines equal to it.
-use Rattle.std.proofs.Common.{◌≡◌, ◌≢◌, inl, inr, ℕ, suc, zero, ◌^◌, ◌<◌, List, [], ◌∷◌, map, length, Option, None, Some, All, AllPairs, Contains, sum_by, count_by, slice_index_or, refl, sym, ap, subst, ◌∙◌, arith}
-use Rattle.std.specs.Prelude.{IfSome, bytes_eq, ⊤}
+use Rattle.std.proofs.Common.{◌≡◌, ◌≢◌, inl, inr, ℕ, suc, zero, ◌^◌, ◌<◌, List, [], ◌∷◌, map, length, Option, Some, Contains, sum_by, count_by, slice_index_or, refl, sym, ap, subst, ◌∙◌, arith}
+use Rattle.std.specs.Prelude.{IfSome, bytes_eq}
 use Rattle.std.specs.List.{AllByRecursion}
-use Rattle.std.proofs.lemmas.List.Kept.{AllPairs-cons}
 use Rattle.std.proofs.lemmas.List.Sums.{count_by-le-length}
+use Rattle.std.proofs.lemmas.List.Elements.{All-from_recursion}
+use Rattle.list_facts.proofs.Equal.{bytes_eq-other, bytes_eq-same, cases_same}
+use Rattle.list_facts.proofs.Sums.{sum_by-map}
 use Rattle.msg_codec.specs.declared.letter.Letter.{Letter}
 use Rattle.comm_rank.specs.Fold.{fold_from}
 use Rattle.counting_set.specs.Counting.{Counts, added, adds, share, count_in, counting_apply, AreCounted}
-use Rattle.counting_set.proofs.Adding.{bytes_eq-same, bytes_eq-other, cases_same, count_in-first, count_in-later}
-use Rattle.counting_set.proofs.Sums.{after, fold-after, Fits64, count_in-after, sum_by-of}
-
--- what stands later has another item
-abbrev pub IsOther : List ℕ × ℕ → List ℕ × ℕ → Type 0
-IsOther pair later = pair.0 ≢ later.0
-
-abbrev pub Distinct : Counts → Type 0
-Distinct [] = ⊤
-Distinct (e ∷ es) = AllByRecursion (IsOther e) es × Distinct es
+use Rattle.counting_set.proofs.Counts.After.{after, fold-after}
+use Rattle.counting_set.proofs.Counts.CountIn.{count_in-first, count_in-later}
+use Rattle.counting_set.proofs.Counts.Distinct.{IsOther, Distinct, distinct-after, pairs_distinct}
+use Rattle.counting_set.proofs.Counts.Sums.{Fits64, count_in-after}
 
 abbrev pub IsThere : List ℕ × ℕ → Type 0
 IsThere pair = 0 < pair.1
-
-pub all_of : {X : Type 0} (P : X → Type 0) (xs : List X) → AllByRecursion P xs → All P xs
-all_of P [] h k d lt = absurd (omega (arith, lt))
-all_of P (x ∷ xs) h zero d lt = h.0
-all_of P (x ∷ xs) h (suc k) d lt = all_of P xs h.1 k d (omega (arith, lt))
-
-pub pairs_distinct : (es : Counts) → Distinct es → AllPairs IsOther es
-pairs_distinct [] h = λ i j d lt within. absurd (omega (arith, within))
-pairs_distinct (e ∷ es) h = AllPairs-cons IsOther e es (all_of (IsOther e) es h.0) (pairs_distinct es h.1)
-
-others-added : (e : List ℕ × ℕ) (x : List ℕ) (c : ℕ) (es : Counts) → e.0 ≢ x → AllByRecursion (IsOther e) es → AllByRecursion (IsOther e) (added x c es)
-others-added e x c [] ne h = (ne, tt)
-others-added e x c (f ∷ es) ne h =
-    elim (cases_same x f.0) [
-      | inl same ↦ rw (ap (λ k. bytes_eq x k) (sym same) ∙ bytes_eq-same x) h
-      | inr other ↦ rw (bytes_eq-other x f.0 other) (h.0, others-added e x c es ne h.1)
-    ]
-
-pub distinct-added : (x : List ℕ) (c : ℕ) (es : Counts) → Distinct es → Distinct (added x c es)
-distinct-added x c [] h = (tt, tt)
-distinct-added x c (e ∷ es) h =
-    elim (cases_same x e.0) [
-      | inl same ↦ rw (ap (λ k. bytes_eq x k) (sym same) ∙ bytes_eq-same x) h
-      | inr other ↦ rw (bytes_eq-other x e.0 other) (others-added e x c es (λ j. other (sym j)) h.0, distinct-added x c es h.1)
-    ]
 
 pub there-added : (x : List ℕ) (c : ℕ) (es : Counts) → 0 < c → AllByRecursion IsThere es → AllByRecursion IsThere (added x c es)
 there-added x c [] lt h = (lt, tt)
@@ -57,11 +28,6 @@ there-added x c (e ∷ es) lt h =
 -- one of a line
 abbrev pub one_of : List ℕ → Option (List ℕ × ℕ)
 one_of line = Some (line, 1)
-
-pub distinct-after : (os : List (Option (List ℕ × ℕ))) (es : Counts) → Distinct es → Distinct (after es os)
-distinct-after [] es h = h
-distinct-after (None ∷ os) es h = distinct-after os es h
-distinct-after (Some one ∷ os) es h = distinct-after os (added one.0 one.1 es) (distinct-added one.0 one.1 es h)
 
 pub there-after : (lines : List (List ℕ)) (es : Counts) → AllByRecursion IsThere es → AllByRecursion IsThere (after es (map one_of lines))
 there-after [] es h = h
@@ -81,7 +47,7 @@ counted_if_there x c (e ∷ es) h t zero lt at =
 counted_if_there x c (e ∷ es) h t (suc k) lt at =
     let within : k < length es = omega (arith, lt) in
     let rest = counted_if_there x c es h.1 t.1 k within at in
-    let apart : e.0 ≢ x = subst (IsOther e) at (all_of (IsOther e) es h.0 k (x, c) within) in
+    let apart : e.0 ≢ x = subst (IsOther e) at (All-from_recursion (IsOther e) es h.0 k (x, c) within) in
     (rest.0 ∙ sym (count_in-later x e.0 e.1 es (λ j. apart (sym j))), rest.1)
 
 -- what is counted is there
@@ -111,7 +77,7 @@ counted es lines h t counts = record {
 -- the count of a line where one of each is added
 pub count_in-ones : (x : List ℕ) (lines : List (List ℕ)) → length lines < 2 ^ 64 → count_in (after [] (map one_of lines)) x ≡ count_by (λ line. bytes_eq x line) lines
 count_in-ones x lines few =
-    let sum : sum_by (share x) (map one_of lines) ≡ count_by (λ line. bytes_eq x line) lines = sum_by-of (share x) one_of lines in
+    let sum : sum_by (share x) (map one_of lines) ≡ count_by (λ line. bytes_eq x line) lines = sum_by-map (share x) one_of lines in
     let most = count_by-le-length (λ line. bytes_eq x line) lines in
     let all = count_in-after x (map one_of lines) [] (omega arith) (ones_fit lines) in
     omega (arith, all, sum, most, few)

@@ -1,8 +1,8 @@
 use Rattle.std.proofs.Common.{arith, rules, Some, None}
-use Rattle.msg_codec.specs.ItemCount.{item_count_of}
-use Rattle.msg_codec.proofs.Bytes.{are_bytes}
-use Rattle.msg_codec.proofs.ItemCount.{found_is, short_is, none_is}
-use Rattle.msg_codec.proofs.item_count.read_item_count.Goals as goal
+use Rattle.msg_codec.proofs.Bytes.Slices.{are_bytes}
+use Rattle.counting_set.specs.ItemCount.{item_count_of}
+use Rattle.counting_set.proofs.ItemCount.Whole.{found_is, none_is, short_is}
+use Rattle.counting_set.proofs.item_count.read_item_count.Goals as goal
 
 pub returns-in-Ok-clause-found : goal.returns-in-Ok-clause-found
 unfolding item_count_of
