@@ -202,7 +202,7 @@ impl<H: Handler> Comm<H> {
         self.stopped
     }
 
-    /// Does nothing, and states what always holds: letters go straight to their destinations, the rank has sent no
+    /// Does nothing, and states what is always true: letters go straight to their destinations, the rank has sent no
     /// more than it may, and what it holds for a rank is in the list of that rank.
     pub(crate) fn holds(&self)
         ensures direct { self.now.scheme ≡ Direct }

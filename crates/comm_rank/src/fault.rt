@@ -17,8 +17,8 @@ pub enum CommFault {
     /// is stopped for good.
     #[error("the rank is at its limit of letters")]
     CountFull(AtLimit),
-    /// Out of memory. What the call promises of a refusal holds. A send may be tried again; after a turn or a barrier
-    /// the rank is stopped for good.
+    /// Out of memory. A send changed nothing and may be tried again; after a turn or a barrier the rank is stopped for
+    /// good.
     #[error("out of memory")]
     NoMemory,
 }

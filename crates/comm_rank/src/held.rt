@@ -154,7 +154,7 @@ impl Held {
         self.queues[to as usize].give_back(batch);
     }
 
-    /// Does nothing, and states what always holds: there is a list for each rank, with letters for it, so that what
+    /// Does nothing, and states what is always true: there is a list for each rank, with letters for it, so that what
     /// is held of a pair of ranks is in the list of its destination.
     pub(crate) fn holds(&self)
         ensures held { AreHeld (length self.now.lists) self.now.lists }

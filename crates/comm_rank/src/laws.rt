@@ -13,7 +13,7 @@ ghost use Rattle.comm_rank.specs.Turns.{CutOff};
 use crate::Handler;
 
 /// In a sound world, what ran at a rank from a sender is a prefix of what that sender sent there: each letter ran at
-/// most once, and in order. That holds at every moment, whatever carries the letters.
+/// most once, and in order. This is so at every moment, whatever carries the letters.
 pub fn what_ran_is_the_beginning_of_what_was_sent<H>()
     ensures { (world : Logs) (sender me : Rank H) → IsSound world → sender.here < world.layout.ranks → me.here < world.layout.ranks →
         IsPrefix (ran_from me (log_of world me.here) sender.here) (sent_to sender (log_of world sender.here) me.here) }
