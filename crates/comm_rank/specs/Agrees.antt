@@ -9,16 +9,16 @@ use Rattle.world_core.specs.Post.{Told}
 use Rattle.comm_rank.specs.Fold.{Applies, fold_from, handed_from}
 use Rattle.comm_rank.specs.Rank.{Rank, local_of, held_letters, sent_to, ran_at}
 
--- A rank agrees with a log: all that came has run, what it holds of others is what it has to forward, its counts
--- are those of the letters that it sent and ran, its contents are the fold of what ran, all that its handler gave
--- was sent, and the log is modest.
+-- A rank agrees with a log: all that came has run, what it holds of other senders is what it has to forward, its counts
+-- are those of the letters that it sent and ran, its contents are the fold of what ran, all that its handler gave was
+-- sent, and the log is modest.
 pub record Agrees {C : Type 0} (apply : Applies C) (start : C → C) (me : Rank C) (log : List Entry) : Type 0 where
   pub nothing_waits : me.waiting ≡ []
   pub forwards : (from to : ℕ) → from ≢ me.here → of_pair from to (held_letters me) ≡ to_forward (local_of me log) from to
   pub sent_count : me.sent_count ≡ length (own me.here log) + length (of_sender me.here (held_letters me))
   pub run_count : me.run_count ≡ length (ran_at me log)
   pub contents : me.contents ≡ fold_from apply me.here me.layout.ranks (start me.contents) (ran_at me log)
-  pub answered : (to : ℕ) → IsSublist (of_pair me.here to (handed_from apply me.here me.layout.ranks (start me.contents) (ran_at me log))) (sent_to me log to)
+  pub given_is_sent : (to : ℕ) → IsSublist (of_pair me.here to (handed_from apply me.here me.layout.ranks (start me.contents) (ran_at me log))) (sent_to me log to)
   pub modest : IsModest (local_of me log)
 
 -- A rank belongs to a post: the post serves it and is of the same world, and the rank agrees with its log there.

@@ -5,31 +5,31 @@ use Rattle.comm_rank.specs.Fold.{Applies}
 use Rattle.comm_rank.specs.declared.fault.CommFault.{CommFault}
 use Rattle.comm_rank.specs.declared.fault.CommFault.TheVariants.{Stopped, CountFull, NoMemory}
 
--- the stop was met, as the call began
+-- of a call that met the stop as it began
 abbrev pub IfStopped : CommFault → Type 0 → Type 0
 IfStopped Stopped P = P
 IfStopped (CountFull at) P = ⊤
 IfStopped NoMemory P = ⊤
 
--- the rank itself couldn't go on
+-- of a call of which the rank itself couldn't go on
 abbrev pub UnlessStopped : CommFault → Type 0 → Type 0
 UnlessStopped Stopped P = ⊤
 UnlessStopped (CountFull at) P = P
 UnlessStopped NoMemory P = P
 
--- a fact of the limit that a full count gave
+-- a fact of the limit that a full count reports
 abbrev pub IfCountFull : CommFault → (ℕ → Type 0) → Type 0
 IfCountFull Stopped P = ⊤
 IfCountFull (CountFull at) P = P at
 IfCountFull NoMemory P = ⊤
 
--- a call that doesn't look at the stop
+-- of a call that doesn't look at the stop
 abbrev pub NeverStopped : CommFault → Type 0
 NeverStopped Stopped = ⊥
 NeverStopped (CountFull at) = ⊤
 NeverStopped NoMemory = ⊤
 
--- a full count is answered only by a rank that has sent as many letters as it may
+-- a full count is reported only by a rank that has sent as many letters as it may
 abbrev pub IsFullAt : ℕ → ℕ → CommFault → Type 0
 IsFullAt count limit fault = IfCountFull fault (λ at. (count ≡ limit) × (at ≡ limit))
 
@@ -37,6 +37,6 @@ IsFullAt count limit fault = IfCountFull fault (λ at. (count ≡ limit) × (at 
 abbrev pub Gives : {C : Type 0} → Applies C → Type 0
 Gives {C} apply = (contents : C) × (here : ℕ) × (ranks : ℕ) × (letter : Letter) × (0 < length (apply contents here ranks letter).1)
 
--- while letters run, a full count is answered only where a handler sends others
+-- while letters run, a full count is reported only where a handler sends others
 abbrev pub GivesIfFull : {C : Type 0} → Applies C → CommFault → Type 0
 GivesIfFull apply fault = IfCountFull fault (λ _. Gives apply)

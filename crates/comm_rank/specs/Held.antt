@@ -11,7 +11,7 @@ held_for held next = slice_index_or held next []
 abbrev pub NoneClosed : List (List Letter) → ℕ → Type 0
 NoneClosed held next = held_for held next ≡ []
 
--- These letters are held in addition: of each pair of ranks they come last, and of each sender they count.
+-- These letters are held in addition: of each pair of ranks they come last, and each counts for its sender.
 pub record Gains (before after letters : List Letter) : Type 0 where
   pub pairs : (from to : ℕ) → of_pair from to after ≡ of_pair from to before ++ of_pair from to letters
   pub senders : (from : ℕ) → length (of_sender from after) ≡ length (of_sender from before) + length (of_sender from letters)

@@ -4,6 +4,7 @@ use Rattle.std.specs.List.{AllByRecursion}
 use Rattle.msg_codec.specs.declared.letter.Letter.{Letter}
 use Rattle.ygm_route.specs.declared.scheme.Scheme.TheVariants.{Direct}
 use Rattle.world_core.specs.declared.entry.Entry.{Entry}
+use Rattle.world_core.specs.Limits.{most_letters}
 use Rattle.world_core.specs.Log.{letters_of}
 use Rattle.world_core.specs.Pairs.{of_pair, of_sender, own, sent}
 use Rattle.world_core.specs.Post.{CountsNeverFall, FullsRise, SameFulls, SameMisses, SamePost, SameStops, Told, local_at}
@@ -14,15 +15,15 @@ use Rattle.comm_rank.specs.Held.{NoneClosed, held_for}
 use Rattle.comm_rank.specs.Rank.{Rank, ran_at, sent_to}
 use Rattle.comm_rank.specs.Turns.{FirstFull, IsPut, MetFull, NoneOrFull}
 
--- A rank may put what it holds: it is a rank of the post's world, where letters go straight to their destination;
--- the letters that it holds are its own, and with them it has sent no more than a rank may.
+-- A rank may put what it holds: it is a rank of the post's world, where letters go straight to their destination; the
+-- letters that it holds are its own, and with them it has sent no more than a rank may.
 pub record MayPut (here : ℕ) (held : List (List Letter)) (post : Told) : Type 0 where
   pub all : length held ≡ post.layout.ranks
   pub within : here < post.layout.ranks
   pub serves : IsTrue (post.serves here)
   pub direct : post.scheme ≡ Direct
   pub own_alone : (from to : ℕ) → from ≢ here → of_pair from to (letters_of held) ≡ []
-  pub few : length (own here (post.log here)) + length (of_sender here (letters_of held)) ≤ 2 ^ 56
+  pub few : length (own here (post.log here)) + length (of_sender here (letters_of held)) ≤ most_letters
 
 -- what puts leave unchanged at the post
 pub record MoveKeeps (here : ℕ) (old new : Told) : Type 0 where
@@ -32,7 +33,7 @@ pub record MoveKeeps (here : ℕ) (old new : Told) : Type 0 where
   pub halts : new.halts ≡ old.halts
   pub counts : CountsNeverFall old new
 
--- Letters moved from what a rank holds into its log, which gained honest puts alone. What has been sent to each rank is
+-- Letters moved from what a rank holds into its log, which gained honest puts alone. What was sent to each rank is
 -- unchanged, and so is its count.
 pub record Moved (here : ℕ) (before after : List (List Letter)) (old new : Told) (placed : List Entry) : Type 0 where
   pub log : new.log here ≡ old.log here ++ placed
@@ -52,7 +53,7 @@ pub record PutsFailed (here : ℕ) (before after : List (List Letter)) (old new 
 
 -- ---- one put to a rank
 
--- the first letter for it left, or the link was full
+-- the first letter for it was put, or the link was full
 abbrev pub PutsOne : Bool → ℕ → ℕ → List (List Letter) → List (List Letter) → Told → Told → Type 0
 PutsOne true here to before after old new = (length (held_for before to) ≡ length (held_for after to) + 1) × SameFulls old new
 PutsOne false here to before after old new = MetFull here to after old new × FullsRise to old new
@@ -89,8 +90,8 @@ pub record HasPutEach (here ranks : ℕ) (before after : List (List Letter)) (ol
   pub none_or_full : (to : ℕ) → to < ranks → NoneOrFull here to after old new
   pub first_full : FirstFull ranks after old new full
 
--- Puts of a rank: its log gained puts alone. What it has sent and what ran are unchanged, and so is all of it but what it
--- holds.
+-- Puts of a rank: its log gained puts alone. What it has sent, what ran, and all of the rank but what it holds are
+-- unchanged.
 pub record PutOut {C : Type 0} (old new : Rank C) (before after placed : List Entry) : Type 0 where
   pub log : after ≡ before ++ placed
   pub puts : AllByRecursion IsPut placed

@@ -10,8 +10,8 @@ use Rattle.world_core.specs.Pairs.{of_pair, ran, ran_from as pair_ran, sent}
 use Rattle.comm_rank.specs.Fold.{Applies, fold_from, handed_from}
 use Rattle.comm_rank.specs.Held.{Gains}
 
--- Its place in which world, how many letters it may send, what its handler keeps, its counts, by destination
--- the letters that it holds, the letters that it took and that wait still, and whether it is stopped.
+-- Its place in its world, how many letters it may send, what its handler keeps, its counts, the letters that it holds by
+-- destination, the letters that it took and that still wait, and whether it is stopped.
 pub record Rank (C : Type 0) : Type 0 where
   pub layout : Shape
   pub scheme : Scheme
@@ -43,23 +43,23 @@ fresh_rank layout scheme here most contents = record {
 abbrev pub local_of : {C : Type 0} → Rank C → List Entry → Local
 local_of me log = record { layout = me.layout; scheme = me.scheme; here = me.here; log = log }
 
--- the letters that it holds, for whichever destination
+-- the letters that it holds, whatever their destination
 abbrev pub held_letters : {C : Type 0} → Rank C → List Letter
 held_letters me = letters_of me.held
 
--- what it has sent to a rank: what its log put, and then what it holds still
+-- what it has sent to a rank: what its log put, followed by what it still holds
 abbrev pub sent_to : {C : Type 0} → Rank C → List Entry → ℕ → List Letter
 sent_to me log to = sent me.here to log (held_letters me)
 
--- what ran there: the letters for it that its log took, less those that wait still
+-- what ran there: the letters for it that its log took, without those that still wait
 abbrev pub ran_at : {C : Type 0} → Rank C → List Entry → List Letter
 ran_at me log = ran me.here log me.waiting
 
--- the part of one sender
+-- those of one sender
 abbrev pub ran_from : {C : Type 0} → Rank C → List Entry → ℕ → List Letter
 ran_from me log from = pair_ran from me.here log me.waiting
 
--- what becomes of its contents as letters run, one after another, and what its handler gives then
+-- what becomes of its contents while letters run, one after another, and what its handler gives then
 abbrev pub folded : {C : Type 0} → Applies C → Rank C → List Letter → C
 folded apply me letters = fold_from apply me.here me.layout.ranks me.contents letters
 
@@ -72,18 +72,18 @@ handed apply me letters = handed_from apply me.here me.layout.ranks me.contents 
 abbrev pub halted : {C : Type 0} → Rank C → Rank C
 halted me = record me { stopped = true }
 
--- One letter more was sent: it is held, it is the last that was sent to its destination, and it is counted. All else is
--- unchanged.
+-- A letter was sent: it is held, it is the last that was sent to its destination, and it is counted. All else of the rank
+-- is unchanged.
 pub record HasSent {C : Type 0} (old new : Rank C) (l : Letter) : Type 0 where
   pub held : Gains (held_letters old) (held_letters new) (l ∷ [])
   pub sent : (log : List Entry) (to : ℕ) → sent_to new log to ≡ sent_to old log to ++ of_pair old.here to (l ∷ [])
   pub rank : new ≡ record old { sent_count = old.sent_count + 1; held = new.held }
 
--- Letters ran at the rank, or left it: all but this is unchanged.
+-- Letters ran at the rank or were put into its links: nothing changed of it but what these fields say.
 abbrev pub Worked : {C : Type 0} → Rank C → Rank C → Type 0
 Worked old new = new ≡ record old { contents = new.contents; sent_count = new.sent_count; run_count = new.run_count; held = new.held; waiting = new.waiting }
 
--- the rank is of the same world, and there the same one
+-- the same rank of the same world
 pub record IsSameRank {C : Type 0} (old new : Rank C) : Type 0 where
   pub layout : new.layout ≡ old.layout
   pub scheme : new.scheme ≡ old.scheme

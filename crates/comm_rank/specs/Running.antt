@@ -13,14 +13,14 @@ use Rattle.comm_rank.specs.Fault.{IfCountFull}
 use Rattle.comm_rank.specs.Fold.{Applies}
 use Rattle.comm_rank.specs.Held.{Gains}
 use Rattle.comm_rank.specs.Rank.{Rank, folded, handed, held_letters, local_of}
-use Rattle.comm_rank.specs.Turns.{Advanced, CutOff, HasBegun, IsCause, IsFullBehind, IsTake, LookedAt, FullAtFirst, other_end}
+use Rattle.comm_rank.specs.Turns.{Advanced, CutOff, HasBegun, IsCause, IsFullAfter, IsTake, LookedAt, FullAtFirst, other_end}
 
 -- a data letter for this rank
 pub record IsFor (rank : ℕ) (l : Letter) : Type 0 where
   pub destination : l.to ≡ rank
   pub tag : IsTrue (is_data l)
 
--- a data letter of this rank
+-- a data letter from this rank
 pub record IsOf (rank : ℕ) (l : Letter) : Type 0 where
   pub sender : l.from ≡ rank
   pub tag : IsTrue (is_data l)
@@ -48,7 +48,8 @@ pub record RanWaiting {C : Type 0} (apply : Applies C) (old new : Rank C) : Type
 
 -- ---- a letter that couldn't run
 
--- These letters ran, and the next one had not begun; or of what its handler gave only this first part is held.
+-- These letters ran, and the next one had not begun to run; or, of what the handler gave by it, only this first part is
+-- held.
 pub record IsStuck {C : Type 0} (apply : Applies C) (old new : Rank C) (run given : List Letter) : Type 0 where
   pub begun : HasBegun apply old.here old.layout.ranks (folded apply old run) new.contents new.waiting given
   pub held : Gains (held_letters old) (held_letters new) (handed apply old run ++ given)
@@ -61,7 +62,7 @@ pub record StuckFirst {C : Type 0} (apply : Applies C) (old new : Rank C) (fault
   pub given : List Letter
   pub stuck : IsStuck apply old new [] given
   pub still_waits : new.waiting ≡ old.waiting
-  pub full_at_first : IfCountFull fault (λ _. IsFullBehind apply old new [])
+  pub full_at_first : IfCountFull fault (λ _. IsFullAfter apply old new [])
   pub cause : IsCause apply old new fault
 
 -- the first of these letters, which waited, ran, and the others wait
@@ -70,7 +71,7 @@ pub record StuckIn {C : Type 0} (apply : Applies C) (old new : Rank C) (waiting 
   pub given : List Letter
   pub waits : waiting ≡ run ++ new.waiting
   pub stuck : IsStuck apply old new run given
-  pub full_at_first : IfCountFull fault (λ _. IsFullBehind apply old new run)
+  pub full_at_first : IfCountFull fault (λ _. IsFullAfter apply old new run)
   pub cause : IsCause apply old new fault
 
 -- ---- batches that were taken
@@ -107,14 +108,14 @@ pub record CutFrom {C : Type 0} (from : ℕ) (apply : Applies C) (old new : Rank
   pub alone : AllByRecursion (λ entry. other_end entry ≡ from) cut.taken
   pub one : length cut.taken ≤ 1
 
--- nothing was taken from a rank, and no miss counted there; its link is unchanged
+-- nothing was taken from a rank, and no miss was counted there; its link is unchanged
 pub record NotLookedAt (here from : ℕ) (old new : Told) : Type 0 where
   pub taken : batches_taken from (new.log here) ≡ batches_taken from (old.log here)
   pub misses : new.misses from ≡ old.misses from
   pub serves : new.serves from ≡ old.serves from
   pub link : link_in new from here ≡ link_in old from here
 
--- ---- the outcomes of takes, of the rank and of what the post shows
+-- ---- the outcomes of takes, for the rank and for what the post shows
 
 -- from one rank
 pub record HasTakenFrom {C : Type 0} (from : ℕ) (apply : Applies C) (start : C → C) (old new : Rank C) (before after : Told) (took : ℕ) : Type 0 where

@@ -1,5 +1,6 @@
--- What a handler has sent while it runs a letter.
+-- What a handler sends while it runs a letter.
 use Rattle.std.specs.Prelude.{ℕ, ◌<◌, List}
+use Rattle.world_core.specs.Limits.{data_tags}
 use Rattle.comm_rank.specs.declared.handler.Outbound.{Outbound}
 
 pub record Sends : Type 0 where
@@ -9,4 +10,4 @@ pub record Sends : Type 0 where
 -- a data letter to a rank of the world
 pub record IsData (ranks : ℕ) (sent : Outbound) : Type 0 where
   pub destination : sent.to < ranks
-  pub tag : sent.tag < 240
+  pub tag : sent.tag < data_tags

@@ -49,22 +49,22 @@ abbrev pub HasRun : {C : Type 0} → List (Rank C) → List (Rank C) → Plain �
 HasRun {C} before after old new caller = (to : ℕ) (b a : Rank C) → slice_get before caller ≡ Some b → slice_get after to ≡ Some a →
     IsPrefix (sent_to b (log_of old.world caller) to) (ran_from a (log_of new.world to) caller)
 
--- what each log was is the beginning of what it is
+-- what each log was is a prefix of what it is
 abbrev pub LogsGrow : Plain → Plain → Type 0
 LogsGrow old new = (rank : ℕ) → IsPrefix (log_of old.world rank) (log_of new.world rank)
 
 abbrev pub SameLogs : Plain → Plain → Type 0
 SameLogs old new = (rank : ℕ) → log_of new.world rank ≡ log_of old.world rank
 
--- No letter is lost: what a rank has sent to another ran there, waits there, is in the link or is held still, in this
+-- No letter is lost: what a rank has sent to another ran there, waits there, is in the link or is still held, in this
 -- order.
 abbrev pub NoneLost : {C : Type 0} → List (Rank C) → Plain → Type 0
 NoneLost {C} comms links = (from to : ℕ) (s d : Rank C) → slice_get comms from ≡ Some s → slice_get comms to ≡ Some d →
     sent_to s (log_of links.world from) to
     ≡ ran_from d (log_of links.world to) from ++ of_pair from to d.waiting ++ of_pair from to (letters_of (link links.world from to)) ++ of_pair from to (held_letters s)
 
--- A rank's last turn was cut off: how the rank and its log were as that turn began, and what ran before. A full count
--- came at the first letter that is too many.
+-- A rank's last turn was cut off: the rank and its log when that turn began, and what ran before. A full count came at the
+-- first letter that is too many.
 pub record LastTurn {C : Type 0} (apply : Applies C) (old new : Rank C) (before after : List Entry) (fault : CommFault) : Type 0 where
   pub began : Rank C
   pub log : List Entry
@@ -74,8 +74,8 @@ pub record LastTurn {C : Type 0} (apply : Applies C) (old new : Rank C) (before 
   pub cut_off : CutOff apply began new log after
   pub full_at_first : IfCountFull fault (λ _. FullAtFirst apply began new log after)
 
--- A turn of one rank failed, which is stopped and has raised the stop, unless it met it. At each of the others letters
--- ran: they may go on, and whether they have raised the stop is as before.
+-- A turn of one rank failed. That rank is stopped, and has raised the stop unless it met it. At each of the others letters
+-- ran: they may go on, and whether they have raised the stop is unchanged.
 pub record FailedAt {C : Type 0} (apply : Applies C) (start : C → C) (before after : List (Rank C)) (old new : Plain) (fault : CommFault) : Type 0 where
   pub rank : ℕ
   pub me : Rank C
@@ -89,8 +89,8 @@ pub record FailedAt {C : Type 0} (apply : Applies C) (start : C → C) (before a
   pub others : (other : ℕ) → other ≢ rank → HasAdvanced apply before after old new other
   pub others_go_on : (other : ℕ) (a : Rank C) → other ≢ rank → slice_get after other ≡ Some a → IsRankOf apply start new other a
 
--- A turn of one rank met the stop, before any other did anything: that rank is stopped and else as it was, the others
--- are what they were, and every log stands.
+-- A turn of one rank met the stop, before any other did anything: that rank is stopped and otherwise unchanged, the
+-- others are unchanged, and so is every log.
 pub record HaltedAt {C : Type 0} (before after : List (Rank C)) (old new : Plain) : Type 0 where
   pub rank : ℕ
   pub me : Rank C
@@ -120,7 +120,7 @@ abbrev pub IsNearer : {C : Type 0} → List (Rank C) → Plain → Plain → ℕ
 IsNearer before old new from to =
     (sent_length before old from to ≤ taken_length new from to) ⊎ (taken_length old from to + 1 ≤ taken_length new from to)
 
--- what was sent and what was taken never gets less
+-- what was sent and what was taken never become fewer
 abbrev pub NeverLess : {C : Type 0} → List (Rank C) → List (Rank C) → Plain → Plain → Type 0
 NeverLess before after old new = (from to : ℕ) →
     (sent_length before old from to ≤ sent_length after new from to) × (taken_length old from to ≤ taken_length new from to)
@@ -131,8 +131,8 @@ pub record Untouched {C : Type 0} (before after : List (Rank C)) (old new : Plai
   pub sent : sent_length after new from to ≡ sent_length before old from to
   pub taken : taken_length new from to ≡ taken_length old from to
 
--- What a turn of a rank does to the links: those to it are looked at, and those from it are loaded. Where it took
--- and put nothing, those to it were empty.
+-- What a turn of a rank does to the links: those to it are looked at, and those from it are loaded. Where it took and put
+-- nothing, those to it were empty.
 pub record TurnMoves {C : Type 0} (before after : List (Rank C)) (old new : Plain) (rank : ℕ) (moved : Bool) : Type 0 where
   pub never_less : NeverLess before after old new
   pub looks : (from : ℕ) → from < new.world.layout.ranks → (link old.world from rank ≡ []) ⊎ (taken_length old from rank + 1 ≤ taken_length new from rank)

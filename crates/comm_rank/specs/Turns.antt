@@ -41,8 +41,8 @@ pub record Gained (before after taken placed : List Entry) : Type 0 where
 
 -- ---- what it ran and sent
 
--- These letters ran at a rank, and nothing else: they are the last that ran there, its contents are folded by
--- them, and what its handler gave is the last that it sent, all of it and in order.
+-- These letters ran at a rank, and no others: they are the last that ran there, its contents are folded by them, and what
+-- its handler gave is the last that it sent, all of it and in order.
 pub record Advanced {C : Type 0} (apply : Applies C) (old new : Rank C) (before after : List Entry) (run : List Letter) : Type 0 where
   pub ran : ran_at new after ≡ ran_at old before ++ run
   pub contents : new.contents ≡ folded apply old run
@@ -60,7 +60,7 @@ pub record Turned {C : Type 0} (apply : Applies C) (old new : Rank C) (before af
   pub took : turn.took ≡ length taken
   pub put : turn.put ≡ min (length placed) (2 ^ 64 - 1)
 
--- The letter that waits first had not begun to run; or its handler ran, and only the first of what that gave was
+-- The letter that waits first had not begun to run; or the handler ran it, and only the first letters that it gave were
 -- sent.
 abbrev pub HasBegun : {C : Type 0} → Applies C → ℕ → ℕ → C → C → List Letter → List Letter → Type 0
 HasBegun apply here ranks before after waiting given =
@@ -68,8 +68,7 @@ HasBegun apply here ranks before after waiting given =
     ⊎ ((l : Letter) × (k : ℕ) × (slice_get waiting 0 ≡ Some l) × (after ≡ (apply before here ranks l).0)
     × (k < length (given_by apply here ranks before l)) × (given ≡ take k (given_by apply here ranks before l)))
 
--- A turn that was cut off: the first of the letters for the rank in the batches that it took ran, and the others
--- wait.
+-- A turn that was cut off: of the letters for the rank in the batches that it took, the first ran, and the others wait.
 pub record CutOff {C : Type 0} (apply : Applies C) (old new : Rank C) (before after : List Entry) : Type 0 where
   pub taken : List Entry
   pub placed : List Entry
@@ -83,23 +82,23 @@ pub record CutOff {C : Type 0} (apply : Applies C) (old new : Rank C) (before af
   pub run_count : new.run_count ≡ old.run_count + length run
   pub sent_count : new.sent_count ≡ old.sent_count + length (handed apply old run) + length given
 
--- After these letters, which ran, one more is too many: with what the handler gives by the letter that waits first
--- the rank would have sent more than it may.
-pub record IsFullBehind {C : Type 0} (apply : Applies C) (old new : Rank C) (run : List Letter) : Type 0 where
+-- After these letters, which ran, one more is too many: with what the handler gives by the letter that waits first the
+-- rank would have sent more than it may.
+pub record IsFullAfter {C : Type 0} (apply : Applies C) (old new : Rank C) (run : List Letter) : Type 0 where
   pub next : Letter
   pub waits : slice_get new.waiting 0 ≡ Some next
   pub too_many : old.most < old.sent_count + length (handed apply old (run ++ next ∷ []))
 
--- A full count came at the first letter that is too many: all before it ran.
+-- A full count came at the first letter that is too many: all letters before it ran.
 pub record FullAtFirst {C : Type 0} (apply : Applies C) (old new : Rank C) (before after : List Entry) : Type 0 where
   pub run : List Letter
   pub ran : ran_at new after ≡ ran_at old before ++ run
-  pub behind : IsFullBehind apply old new run
+  pub full : IsFullAfter apply old new run
 
 -- ---- why it failed
 
--- The cause of a turn's own fault: a full count comes only of a rank that has sent as many letters as it may, and only
--- where a handler sends others.
+-- The cause of a turn's own fault: a full count is reported only by a rank that has sent as many letters as it may, and
+-- only where a handler sends others.
 pub record IsCause {C : Type 0} (apply : Applies C) (old new : Rank C) (fault : CommFault) : Type 0 where
   pub count_full : IsFullAt new.sent_count old.most fault
   pub gave : GivesIfFull apply fault
@@ -113,7 +112,7 @@ pub record WasCut {C : Type 0} (apply : Applies C) (old new : Rank C) (before af
 
 -- ---- what it found at the post
 
--- it took a batch from the rank, or found nothing there: where the post serves that rank too, the link was empty
+-- It took a batch from the rank, or found none: where the post serves that rank too, the link was empty.
 abbrev pub LookedAt : ℕ → ℕ → Told → Told → Type 0
 LookedAt here from old new =
     (length (batches_taken from (new.log here)) ≡ length (batches_taken from (old.log here)) + 1)
@@ -142,7 +141,7 @@ abbrev pub FirstFull : ℕ → List (List Letter) → Told → Told → Option �
 FirstFull ranks held old new None = SameFulls old new
 FirstFull ranks held old new (Some to) = IsFirstFull ranks to held old new
 
--- ---- the outcomes of a turn: of the rank before and after it, and of what the post shows
+-- ---- the outcomes of a turn: for the rank before and after it, and for what the post shows
 
 -- It ended: it took a batch from each link that had one, and put what the rank holds, until no closed batch was held or
 -- the link was full.
@@ -169,8 +168,8 @@ pub record HasFailed {C : Type 0} (apply : Applies C) (old new : Rank C) (before
   pub raises_the_stop : after.raised old.here ≡ true
   pub halts : after.halts ≡ before.halts
 
--- What each turn leaves unchanged at the post: what it is of, the logs of other ranks, and whether these raised the stop.
--- An honest log stays honest, and no count falls.
+-- What each turn leaves unchanged at the post: its world, the ranks that it serves, the logs of other ranks, and whether
+-- these have raised the stop. An honest log stays honest, and no count falls.
 pub record KeepsPost {C : Type 0} (me : Rank C) (before after : Told) : Type 0 where
   pub same : SamePost me.here before after
   pub honest : IsHonest (local_of me (before.log me.here)) → IsHonest (local_of me (after.log me.here))

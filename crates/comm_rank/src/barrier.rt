@@ -18,7 +18,7 @@ fn has_moved(turn: Turn) -> bool
     turn.took > 0 || turn.put > 0
 }
 
-/// A turn of one rank. It answers whether a batch was taken or put.
+/// A turn of one rank. It returns whether a batch was taken or put.
 fn turn_of<H: Handler>(
     comms: &mut [Comm<H>],
     links: &mut PlainLinks,
@@ -50,7 +50,7 @@ fn turn_of<H: Handler>(
     Ok(has_moved(turn))
 }
 
-/// A turn of each rank, in the order of ranks. It answers whether a batch was taken or put.
+/// A turn of each rank, in the order of ranks. It returns whether a batch was taken or put.
 fn round<H: Handler>(comms: &mut [Comm<H>], links: &mut PlainLinks) -> Result<bool, CommFault>
     requires ranks { AreRanks H.apply H.start comms.old links.old }
     ensures moves { IfOk result (RoundMoves (length comms.old) comms.old comms.new links.old links.new) }
@@ -78,17 +78,17 @@ fn round<H: Handler>(comms: &mut [Comm<H>], links: &mut PlainLinks) -> Result<bo
     Ok(moved)
 }
 
-/// The weak barrier of one rank: afterwards every letter that `caller` sent before has run, each once and in
-/// order for each destination. Of letters that handlers send meanwhile it says nothing.
+/// The weak barrier of one rank. After it, every letter that `caller` had sent before has run, each once and in order
+/// for each destination. Letters that handlers send meanwhile may not have run.
 ///
-/// It gives each rank one turn more than the caller has sent letters, and fewer where a whole round of turns
-/// found nothing to do.
+/// It gives each rank one turn more than the caller has sent letters, and fewer where a whole round of turns found
+/// nothing to do.
 ///
-/// It answers `Stopped` where a rank had raised the stop before, and then did nothing; `CountFull` where a letter
-/// that a handler gave would be one more than its rank may send; and `NoMemory` where memory is wanting. The rank
-/// whose turn failed is then stopped for good, and has raised the stop unless it met it; the others are not
-/// stopped. Whatever the answer, no letter is lost: each that was sent has run, waits at its destination, is in
-/// its link or is held by its sender, in order.
+/// It returns `Stopped` where a rank had raised the stop before, and then did nothing; `CountFull` where a handler
+/// gave a letter more than its rank may send; and `NoMemory` out of memory. The rank whose turn failed is then
+/// stopped for good, and has raised the stop unless it met it; the others aren't stopped. Whatever the result, no
+/// letter is lost: each that was sent has run, waits at its destination, is in its link or is held by its sender, in
+/// order.
 pub fn settle<H: Handler>(
     comms: &mut [Comm<H>],
     links: &mut PlainLinks,

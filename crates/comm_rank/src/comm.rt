@@ -1,9 +1,9 @@
 //! One rank of a world.
-ghost use Rattle.std.specs.Prelude.{◌≡◌, ◌<◌, ◌≤◌, ◌+◌, ◌^◌, ℕ, List, [], ◌∷◌, false, length, Err, IfOk, IfErr, OnOk, OnErr};
+ghost use Rattle.std.specs.Prelude.{◌≡◌, ◌<◌, ◌≤◌, ◌+◌, ℕ, List, [], ◌∷◌, false, length, Err, IfOk, IfErr, OnOk, OnErr};
 ghost use Rattle.msg_codec.specs.Letter.{letter_of};
 ghost use Rattle.world_core.specs.declared.entry.Entry.{Entry};
 ghost use Rattle.list_facts.specs.Sums.{sum_upto};
-ghost use Rattle.world_core.specs.Limits.{most_letters};
+ghost use Rattle.world_core.specs.Limits.{data_tags, most_letters};
 ghost use Rattle.world_core.specs.Log.{letters_of};
 ghost use Rattle.world_core.specs.Rules.{IsHonest};
 ghost use Rattle.ygm_route.specs.declared.scheme.Scheme.TheVariants.{Direct};
@@ -23,8 +23,8 @@ use std::marker::Model;
 use world_core::Limits;
 use ygm_route::{Layout, Scheme};
 
-/// One rank of a world: its handler, and the letters that it holds until its links take them. It reaches the
-/// links through a post, which each turn is given. After a fault of a turn it is stopped for good.
+/// One rank of a world: its handler, and the letters that it holds until its links take them. It reaches the links
+/// through a post, which is passed to each turn. After a turn that failed it is stopped for good.
 #[derive(Drop)]
 pub struct Comm<H> {
     pub(crate) alloc: Global,
@@ -42,7 +42,7 @@ pub struct Comm<H> {
 }
 
 impl<H> Model for Comm<H> {
-    ghost use Rattle.std.specs.Prelude.{◌≡◌, ◌<◌, ◌≤◌, ◌^◌, [], length};
+    ghost use Rattle.std.specs.Prelude.{◌≡◌, ◌<◌, [], length};
     ghost use Rattle.ygm_route.specs.declared.scheme.Scheme.TheVariants.{Direct};
     ghost use Rattle.comm_rank.specs.Rank.{Rank};
 
@@ -54,13 +54,13 @@ impl<H> Model for Comm<H> {
         × (comm.out.ranks ≡ comm.layout.ranks) × (comm.out.letters ≡ []) × (length comm.held.lists ≡ comm.layout.ranks) };
 }
 
-/// A rank that couldn't be made, out of memory. It gives the handler back.
+/// A rank that couldn't be made, for lack of memory: its handler.
 #[derive(Debug, Drop)]
 pub struct NotMade<H> {
     pub handler: H,
 }
 
-/// What a rank leaves.
+/// A rank that is done: its handler.
 #[derive(Debug, Drop)]
 pub struct Finished<H> {
     pub handler: H,
@@ -93,8 +93,8 @@ pub(crate) fn hold(
 }
 
 impl<H: Handler> Comm<H> {
-    /// A rank that has sent and run nothing: number `here`, with a handler that keeps what it starts with. It
-    /// takes memory from `alloc` as it sends and as letters run.
+    /// Rank number `here`, which has sent and run nothing, with a handler that keeps what it starts with. It takes
+    /// memory from `alloc` as it sends and as letters run.
     pub fn new(
         alloc: Global,
         layout: Layout,
@@ -129,12 +129,12 @@ impl<H: Handler> Comm<H> {
         })
     }
 
-    /// Sends a letter to a rank, itself perhaps. The rank holds it until a turn puts it into its link. It is
-    /// refused where the rank has sent as many letters as it may, or out of memory: then nothing has changed, and
-    /// the body is lost.
+    /// Sends a letter to a rank, perhaps to itself. The rank holds it until a turn puts it into its link. If the rank
+    /// has sent as many letters as it may, or out of memory, the letter is refused: the rank is unchanged, and the
+    /// body is lost.
     pub fn send(&mut self, to: u32, tag: u8, body: Body) -> Result<(), CommFault>
         requires destination { to < self.old.layout.ranks }
-        requires data { tag < 240 }
+        requires data { tag < data_tags }
         requires going { self.old.stopped ≡ false }
         ensures sent { OnOk result (HasSent self.old self.new (record { to = to; from = self.old.here; tag = tag; body = body })) }
         ensures unchanged { OnErr result (self.new ≡ self.old) }
@@ -168,8 +168,8 @@ impl<H: Handler> Comm<H> {
         self.here
     }
 
-    /// The number of letters that it has sent, by `send` and by its handler, whether they ran or not: where the rank
-    /// agrees with an honest log, the sum of what it has sent to each rank.
+    /// The number of letters that it has sent, by `send` and by its handler, whether they ran or not. Where the rank
+    /// agrees with an honest log, this is the sum of what it has sent to each rank.
     pub fn sent_count(&self) -> u64
         ensures value { result ≡ self.now.sent_count }
         ensures within { result ≤ self.now.most }
@@ -195,15 +195,15 @@ impl<H: Handler> Comm<H> {
         &self.handler
     }
 
-    /// Whether a turn failed. Such a rank takes no other turn, and sends nothing.
+    /// Whether a turn failed. A stopped rank takes no turn and sends nothing.
     pub fn is_stopped(&self) -> bool
         ensures { result ≡ self.now.stopped }
     {
         self.stopped
     }
 
-    /// It does nothing. Letters go straight to their destinations, no rank has sent more than it may, and what is
-    /// held for a rank is in the list of that rank.
+    /// Does nothing, and states what is always true: letters go straight to their destinations, the rank has sent no
+    /// more than it may, and what it holds for a rank is in the list of that rank.
     pub(crate) fn holds(&self)
         ensures direct { self.now.scheme ≡ Direct }
         ensures within { self.now.sent_count ≤ self.now.most }
@@ -214,7 +214,7 @@ impl<H: Handler> Comm<H> {
         self.held.holds();
     }
 
-    /// The handler, as the rank leaves it. It takes no memory.
+    /// Returns its handler. It takes no memory.
     pub fn finish(self) -> Finished<H>
         ensures { result.handler ≡ self.contents }
     {

@@ -9,16 +9,16 @@ use thiserror::Error;
 /// Why a letter wasn't sent, or a turn failed.
 #[derive(Clone, Copy, Debug, PartialEq, Eq, Error)]
 pub enum CommFault {
-    /// `Comm::turn` and `settle` answer it: a rank had raised the stop. The turn did nothing, and its rank is stopped
+    /// `Comm::turn` and `settle` return it: a rank had raised the stop. The turn did nothing, and its rank is stopped
     /// for good.
     #[error("a rank has stopped")]
     Stopped,
-    /// The rank has sent as many letters as it may. It stays so: each later send is refused too. After a turn or a
-    /// barrier the rank is stopped for good.
+    /// The rank has sent as many letters as it may. Each later send is refused too. After a turn or a barrier the rank
+    /// is stopped for good.
     #[error("the rank is at its limit of letters")]
     CountFull(AtLimit),
-    /// Memory was wanting. What the call promises of a refusal holds. A send may be tried again; after a turn or a
-    /// barrier the rank is stopped for good.
+    /// Out of memory. A send changed nothing and may be tried again; after a turn or a barrier the rank is stopped for
+    /// good.
     #[error("out of memory")]
     NoMemory,
 }

@@ -1,13 +1,14 @@
 //! What a rank does with the letters that reach it.
 ghost use Rattle.std.specs.Prelude.{◌≡◌, ◌<◌, ◌≤◌, ℕ, List, [], ◌∷◌, ◌++◌, length, take, OnOk, OnErr};
 ghost use Rattle.msg_codec.specs.declared.letter.Letter.{Letter};
+ghost use Rattle.world_core.specs.Limits.{data_tags};
 
 use msg_codec::{Body, LetterRef};
 use std::alloc::{AllocError, Global};
 use std::marker::Model;
 
-/// A letter that a handler sends, before its sender is put on it: the rank that it goes to, the tag that
-/// says what its body is, below 240, and the body.
+/// A letter that a handler sends, without its sender: the destination, the tag, below 240, which says what the body
+/// is, and the body.
 #[derive(Debug, Drop)]
 pub struct Outbound {
     pub to: u32,
@@ -15,8 +16,8 @@ pub struct Outbound {
     pub body: Body,
 }
 
-/// The letters that a handler sends while it runs one, in order. They are kept here and go into the links
-/// once the handler is done, so that a refusal can take them back.
+/// The letters that a handler sends while it runs one, in order. They are kept here until the handler is done, so
+/// that a refusal can take them back.
 #[derive(Drop)]
 pub struct Outgoing {
     ranks: u32,
@@ -41,7 +42,7 @@ impl Outgoing {
     ghost use Rattle.comm_rank.specs.Fold.{letter_by};
     ghost use Rattle.comm_rank.specs.Sends.{IsData};
 
-    /// No letters, in a world of so many ranks. It takes memory from `alloc` as letters are sent.
+    /// No letters, in a world of this many ranks. It takes memory from `alloc` as letters are sent.
     pub fn new(alloc: Global, ranks: u32) -> Outgoing
         ensures ranks { result.ranks ≡ ranks }
         ensures none { result.letters ≡ [] }
@@ -52,11 +53,11 @@ impl Outgoing {
         }
     }
 
-    /// Sends a letter, to be put into its link once the handler is done. The sender may be the destination.
-    /// It is refused where memory is wanting: then nothing was sent, and the body is lost.
+    /// Sends a letter, once the handler is done. The sender may be the destination. Out of memory, nothing is sent,
+    /// and the body is lost.
     pub fn send(&mut self, to: u32, tag: u8, body: Body) -> Result<(), AllocError>
         requires destination { to < self.old.ranks }
-        requires data { tag < 240 }
+        requires data { tag < data_tags }
         ensures ok { OnOk result (self.new.letters ≡ self.old.letters ++ record { to = to; tag = tag; body = body } ∷ []) }
         ensures err { OnErr result (self.new.letters ≡ self.old.letters) }
         ensures ranks { self.new.ranks ≡ self.old.ranks }
@@ -79,13 +80,13 @@ impl Outgoing {
         self.letters.len() as u64
     }
 
-    /// The letter that was sent as number `k`, from 0, with its sender.
+    /// The letter number `k`, from 0, with its sender.
     pub(crate) fn letter(&self, here: u32, k: u64) -> LetterRef<'_>
         requires { k < length self.now.letters }
         ensures letter { slice_get (map (letter_by here) self.now.letters) k ≡ Some (letter_of result) }
         ensures destination { result.to < self.now.ranks }
         ensures sender { result.from ≡ here }
-        ensures tag { result.tag < 240 }
+        ensures tag { result.tag < data_tags }
     {
         let sent = &self.letters[k as usize];
         LetterRef {
@@ -107,23 +108,22 @@ impl Outgoing {
     }
 }
 
-/// What a rank keeps, and what it does with each letter that reaches it. That rests on the letter, on what
-/// is kept, and on the rank's number and the number of ranks alone, so what a rank becomes is a fold over the
-/// letters that ran there.
+/// What a rank keeps, and what it does with each letter that reaches it. That depends only on the letter, on what the
+/// rank keeps, on its number and on the number of ranks. So what a rank keeps is a fold over the letters that ran
+/// there.
 pub trait Handler: Drop {
     ghost use Rattle.comm_rank.specs.declared.handler.Outbound.{Outbound as Sent};
     ghost use Rattle.msg_codec.specs.Letter.{letter_of};
 
-    /// From the contents, the rank, the number of ranks and the letter, the new contents and what is sent.
+    /// From contents, rank, number of ranks and letter to new contents and what is sent.
     ghost apply: { Self → ℕ → ℕ → Letter → Self × List Sent };
 
-    /// From the contents, those that `new` makes with the same parameters.
+    /// From contents to those that `new` makes with the same parameters.
     ghost start: { Self → Self };
 
-    /// Runs a letter. A letter with a tag that isn't the handler's own, or with a body that spells
-    /// nothing, changes nothing and sends nothing. Letters may stand in `out` already, which stay in front.
-    /// It is refused where memory is wanting: then contents and `out` are as they were, and the letter, which
-    /// still waits, may be run again.
+    /// Runs a letter. A letter with another tag than the handler's own, or with a body that encodes nothing, changes
+    /// nothing and sends nothing. What the handler sends is appended to `out`. Out of memory, contents and `out` are
+    /// unchanged; the letter still waits and may be run again.
     fn run(
         &mut self,
         here: u32,
@@ -136,6 +136,6 @@ pub trait Handler: Drop {
         ensures nothing_sent { OnErr result (out.new.letters ≡ out.old.letters) }
         ensures ranks { out.new.ranks ≡ out.old.ranks };
 
-    /// What runs leaves the start as it was.
+    /// Running a letter doesn't change the start.
     ghost keeps_start: { (contents : Self) (here ranks : ℕ) (l : Letter) → start (apply contents here ranks l).0 ≡ start contents };
 }

@@ -40,7 +40,7 @@ impl Queue {
         self.batches.len()
     }
 
-    /// A batch of one letter joins, after the others.
+    /// Appends a batch of one letter.
     fn push(&mut self, batch: Batch) -> Result<(), AllocError>
         requires one { length batch ≡ 1 }
         ensures ok { OnOk result (self.new.letters ≡ self.old.letters ++ batch) }
@@ -50,7 +50,7 @@ impl Queue {
         Ok(())
     }
 
-    /// The oldest batch, which leaves.
+    /// Removes and returns the oldest batch.
     fn pop(&mut self) -> Option<Batch>
         ensures batch { MatchOption result (self.old.letters ≡ []) (λ batch. take 1 self.old.letters ≡ batch) }
         ensures one { IfSome result (λ batch. length batch ≡ 1) }
@@ -60,7 +60,7 @@ impl Queue {
         self.batches.pop_front()
     }
 
-    /// A batch of one letter is the oldest again. It takes no memory.
+    /// Puts back a batch of one letter as the oldest. It takes no memory.
     fn give_back(&mut self, batch: Batch)
         requires one { length batch ≡ 1 }
         requires room { 1 ≤ self.old.room }
@@ -70,7 +70,7 @@ impl Queue {
     }
 }
 
-/// By destination, the letters that a rank holds, the oldest first.
+/// The letters that a rank holds, by destination, the oldest first.
 #[derive(Drop)]
 pub(crate) struct Held {
     alloc: Global,
@@ -90,7 +90,7 @@ impl Model for Held {
 }
 
 impl Held {
-    /// Nothing is held, in a world of so many ranks.
+    /// No letters, in a world of this many ranks.
     pub(crate) fn new(alloc: Global, ranks: u32) -> Result<Held, AllocError>
         ensures { IfOk result (λ held. held.lists ≡ replicate ranks []) }
     {
@@ -129,7 +129,7 @@ impl Held {
         self.queues[to as usize].count()
     }
 
-    /// The oldest batch for a destination, which leaves.
+    /// Removes and returns the oldest batch for a destination.
     pub(crate) fn next_out(&mut self, to: u32) -> Option<Batch>
         requires { to < length self.old.lists }
         ensures none { IsNone result → held_for self.old.lists to ≡ [] }
@@ -143,7 +143,7 @@ impl Held {
         self.queues[to as usize].pop()
     }
 
-    /// Gives back the batch that `next_out` gave last, which is the oldest again. It takes no memory.
+    /// Puts back the batch that `next_out` returned last, as the oldest. It takes no memory.
     pub(crate) fn step_back(&mut self, to: u32, batch: Batch)
         requires within { to < length self.old.lists }
         requires one { (l : Letter) × (batch ≡ l ∷ []) × IsHeldFor (length self.old.lists) to l }
@@ -154,8 +154,8 @@ impl Held {
         self.queues[to as usize].give_back(batch);
     }
 
-    /// It does nothing. There is a list for each rank, with letters for it, so that what is held of a pair of ranks
-    /// is in the list of its destination.
+    /// Does nothing, and states what is always true: there is a list for each rank, with letters for it, so that what
+    /// is held of a pair of ranks is in the list of its destination.
     pub(crate) fn holds(&self)
         ensures held { AreHeld (length self.now.lists) self.now.lists }
         ensures apart { (to : ℕ) → AreApart self.now.lists to }

@@ -12,19 +12,19 @@ ghost use Rattle.comm_rank.specs.Turns.{CutOff};
 
 use crate::Handler;
 
-/// In a sound world, what ran at a rank from a sender is the beginning of what that one sent there: each of
-/// its letters ran once at most, and in order. That holds at every moment, whatever carries the letters.
+/// In a sound world, what ran at a rank from a sender is a prefix of what that sender sent there: each letter ran at
+/// most once, and in order. This is so at every moment, whatever carries the letters.
 pub fn what_ran_is_the_beginning_of_what_was_sent<H>()
     ensures { (world : Logs) (sender me : Rank H) → IsSound world → sender.here < world.layout.ranks → me.here < world.layout.ranks →
         IsPrefix (ran_from me (log_of world me.here) sender.here) (sent_to sender (log_of world sender.here) me.here) }
 {}
 
-/// What ran at a rank is what came for it, without what still waits.
+/// Where what came for a rank is some letters and then those that still wait, those letters ran.
 pub fn what_ran_is_what_came_without_what_waits<H>()
     ensures { (me : Rank H) (log : List Entry) (run : List Letter) → arrived me.here log ≡ run ++ for_rank me.here me.waiting → ran_at me log ≡ run }
 {}
 
-/// What came for a rank has run, or still waits and came last: while the rank agrees with its log, and after a turn
+/// What came for a rank is what ran, followed by what still waits: while the rank agrees with its log, and after a turn
 /// that was cut off.
 pub fn what_came_has_run_or_waits<H: Handler>()
     ensures agrees { (me : Rank H) (log : List Entry) → Agrees H.apply H.start me log → arrived me.here log ≡ ran_at me log ++ for_rank me.here me.waiting }

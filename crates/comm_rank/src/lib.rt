@@ -1,5 +1,5 @@
-//! Ranks that send each other letters: a rank holds what it sends until its links take it, and each letter runs
-//! at its destination, in the order of its sender.
+//! Ranks that send each other letters. A rank holds what it sends until its links take it. Each letter runs at its
+//! destination, and those of one sender run in the order in which they were sent.
 #![tactic(auto)]
 
 mod barrier;

@@ -1,5 +1,5 @@
-//! What a rank holds goes into its links.
-ghost use Rattle.std.specs.Prelude.{◌≡◌, ◌<◌, ◌≤◌, ◌^◌, ℕ, length, IfErr, IfOk};
+//! A rank puts the letters that it holds into its links.
+ghost use Rattle.std.specs.Prelude.{◌≡◌, ◌<◌, ◌≤◌, ℕ, length, IfErr, IfOk};
 ghost use Rattle.world_core.specs.Rules.{IsHonest};
 ghost use Rattle.comm_rank.specs.Agrees.{Belongs};
 ghost use Rattle.comm_rank.specs.Held.{held_for};
@@ -11,7 +11,7 @@ use crate::held::Held;
 use crate::{Comm, CommFault, Handler};
 use world_core::{Post, PutBack};
 
-/// What a turn did for one destination.
+/// What a turn put for one destination: how many batches, and whether the link was full.
 #[derive(Clone, Copy)]
 struct Placed {
     put: u64,
@@ -103,7 +103,7 @@ impl<H: Handler> Comm<H> {
         ensures honest { IsHonest (local_of self.old ((P.told post.old).log self.old.here)) → IsHonest (local_of self.old ((P.told post.new).log self.old.here)) }
         ensures keeps { MoveKeeps self.old.here (P.told post.old) (P.told post.new) }
     {
-        // No put is one letter too many.
+        // No put is a letter too many.
         let within = self.sent.count() <= self.limits.letters;
         prove!(within);
         put_each(&mut self.held, post, self.here, self.layout.ranks())

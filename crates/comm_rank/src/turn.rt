@@ -1,6 +1,7 @@
-//! A rank's turn: what came is run, and what it holds is put into its links.
-ghost use Rattle.std.specs.Prelude.{◌≡◌, ◌<◌, ◌≤◌, ◌+◌, ◌^◌, [], ℕ, List, Err, true, false, is_err, length, map, take, IsTrue, IfOk, IfErr, OnOk, OnErr};
+//! A rank's turn: it runs what came, and puts what it holds into its links.
+ghost use Rattle.std.specs.Prelude.{◌≡◌, ◌<◌, ◌≤◌, ◌+◌, [], ℕ, List, Err, true, false, is_err, length, map, take, IsTrue, IfOk, IfErr, OnOk, OnErr};
 ghost use Rattle.std.specs.List.{AllByRecursion};
+ghost use Rattle.world_core.specs.Limits.{most_arrived};
 ghost use Rattle.world_core.specs.Log.{letters_of};
 ghost use Rattle.comm_rank.specs.Agrees.{Belongs};
 ghost use Rattle.comm_rank.specs.Fault.{IfCountFull, IfStopped, IsFullAt, NeverStopped, UnlessStopped};
@@ -19,7 +20,7 @@ use msg_codec::Counter;
 use world_core::Post;
 
 /// What a turn did: how many batches it took, how many it put, and the lowest rank to which the link was full.
-/// A count at the end of its type stays there.
+/// A count at the largest value of its type stays there.
 #[derive(Clone, Copy, Debug, PartialEq, Eq)]
 pub struct Turn {
     pub took: u32,
@@ -27,7 +28,7 @@ pub struct Turn {
     pub full: Option<u32>,
 }
 
-/// Counts and holds what a handler gave, in order. Where that is refused, the first of it is counted and held.
+/// Counts and holds what a handler gave, in order. Where a letter is refused, those before it are counted and held.
 fn send_out(
     here: u32,
     sent: &mut Counter,
@@ -54,13 +55,13 @@ fn send_out(
 }
 
 impl<H: Handler> Comm<H> {
-    /// A turn. It looks at the stop; takes at most one batch from each link, in the order of ranks, and runs the
-    /// letters for this rank in order; then puts what the rank holds, destination by destination, until nothing
-    /// remains or the link is full.
+    /// A turn. It looks whether the stop is raised. Then it takes at most one batch from each link, in the order of
+    /// ranks, and runs the letters for this rank in order. Then it puts what the rank holds, destination by
+    /// destination, until nothing remains or the link is full.
     ///
-    /// Where a rank raised the stop, it returns `Stopped` and does nothing. Where a letter can't run or be put,
-    /// because a letter that its handler gave would be one too many or out of memory, this rank raises the stop:
-    /// the letters that it took and that haven't run wait for ever. After either it is stopped.
+    /// Where a rank has raised the stop, it returns `Stopped` and does nothing. Where a letter can't run or be put,
+    /// for lack of memory or because the handler gave a letter too many, this rank raises the stop, and the letters
+    /// that it took and that haven't run wait for ever. After either fault the rank is stopped.
     pub fn turn<P: Post>(&mut self, post: &mut P) -> Result<Turn, CommFault>
         requires going { self.old.stopped ≡ false }
         requires belongs { Belongs H.apply H.start self.old (P.told post.old) }
@@ -96,7 +97,7 @@ impl<H: Handler> Comm<H> {
         Ok(Turn { took, put, full })
     }
 
-    /// Takes a batch from each link in which one waits, and runs its letters.
+    /// Takes a batch from each link that isn't empty, and runs its letters. It returns how many it took.
     fn take_all<P: Post>(&mut self, post: &mut P) -> Result<u32, CommFault>
         requires belongs { Belongs H.apply H.start self.old (P.told post.old) }
         ensures took { IfOk result (HasTakenAll H.apply H.start self.old self.new (P.told post.old) (P.told post.new)) }
@@ -111,8 +112,7 @@ impl<H: Handler> Comm<H> {
         Ok(took)
     }
 
-    /// Takes a batch from the link of one rank, if one waits there, and runs its letters. It returns how many it
-    /// took.
+    /// Takes a batch from the link of one rank, if it isn't empty, and runs its letters. It returns how many it took.
     fn take_from<P: Post>(&mut self, post: &mut P, from: u32) -> Result<u32, CommFault>
         requires belongs { Belongs H.apply H.start self.old (P.told post.old) }
         requires sender { from < self.old.layout.ranks }
@@ -132,7 +132,7 @@ impl<H: Handler> Comm<H> {
     /// Runs the letters that wait.
     fn run_waiting(&mut self) -> Result<(), CommFault>
         requires for_here { AllByRecursion (IsFor self.old.here) self.old.waiting }
-        requires few { self.old.run_count + length self.old.waiting ≤ 2 ^ 62 }
+        requires few { self.old.run_count + length self.old.waiting ≤ most_arrived }
         ensures ran { OnOk result (RanWaiting H.apply self.old self.new) }
         ensures stuck { IfErr result (StuckIn H.apply self.old self.new self.old.waiting) }
         ensures rank { Worked self.old self.new }
@@ -143,12 +143,12 @@ impl<H: Handler> Comm<H> {
         Ok(())
     }
 
-    /// Runs the letter that waits first. Where its handler refuses, nothing has changed; where what the handler
-    /// gave can't all be sent, the letter still waits.
+    /// Runs the letter that waits first. Where the handler refuses it, the rank is unchanged. Where not all that the
+    /// handler gave can be sent, the letter still waits.
     fn run_first(&mut self) -> Result<(), CommFault>
         requires some { 0 < length self.old.waiting }
         requires for_here { AllByRecursion (IsFor self.old.here) self.old.waiting }
-        requires few { self.old.run_count < 2 ^ 62 }
+        requires few { self.old.run_count < most_arrived }
         ensures ran { OnOk result (RanFirst H.apply self.old self.new) }
         ensures stuck { IfErr result (StuckFirst H.apply self.old self.new) }
         ensures rank { Worked self.old self.new }

@@ -6,7 +6,7 @@ use msg_codec::{Batch, LetterRef};
 use std::alloc::Global;
 use std::marker::Model;
 
-/// The letters of a batch behind those that are done.
+/// The letters of a batch after those that are done.
 #[derive(Drop)]
 pub(crate) struct Waiting {
     batch: Batch,
@@ -26,7 +26,7 @@ impl Model for Waiting {
 }
 
 impl Waiting {
-    /// No letter waits. It takes no memory.
+    /// No letters. It takes no memory.
     pub(crate) fn none(alloc: Global) -> Waiting
         ensures { result ≡ [] }
     {
@@ -37,7 +37,7 @@ impl Waiting {
         }
     }
 
-    /// All letters of a batch wait.
+    /// All letters of a batch.
     pub(crate) fn of(batch: Batch) -> Waiting
         ensures { result ≡ batch }
     {
@@ -64,7 +64,7 @@ impl Waiting {
         self.batch.letter_at(self.done)
     }
 
-    /// That letter waits no longer.
+    /// Drops that letter, which no longer waits.
     pub(crate) fn drop_first(&mut self)
         requires { 0 < length self.old }
         ensures { self.new ≡ drop 1 self.old }

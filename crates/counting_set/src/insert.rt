@@ -14,9 +14,8 @@ use comm_rank::{Comm, CommFault, Handler};
 use msg_codec::Body;
 use std::alloc::Global;
 
-/// Adds one of an item, by a letter to the rank that owns it. After a refusal nothing has changed: at
-/// `CommFault::CountFull` the rank has sent as many letters as it may, at `CommFault::NoMemory` memory
-/// ran out.
+/// Adds one of an item, by a letter to the rank that owns it. At `CommFault::CountFull` the rank has sent as many
+/// letters as it may; `CommFault::NoMemory` is lack of memory. After either the rank is unchanged.
 pub fn count_insert<H: Handler>(
     alloc: Global,
     comm: &mut Comm<H>,

@@ -1,5 +1,5 @@
--- A rank agrees with its log still, once it put some of what it holds.
-use Rattle.std.proofs.Common.{◌≡◌, ◌≢◌, ℕ, ◌+◌, ◌-◌, ◌<◌, ◌≤◌, Option, Result, Ok, Err, List, [], ◌∷◌, ◌++◌, length, take, refl, sym, ap, ◌∙◌, subst, append-nil, append_assoc, arith, ◌^◌}
+-- A rank still agrees with its log after it put some of what it holds.
+use Rattle.std.proofs.Common.{◌≡◌, ◌≢◌, ℕ, ◌+◌, ◌-◌, ◌<◌, ◌≤◌, Option, Result, Ok, Err, List, [], ◌∷◌, ◌++◌, length, take, refl, sym, ap, ◌∙◌, subst, append-nil, append_assoc, arith}
 use Rattle.std.specs.List.{AllByRecursion}
 use Rattle.std.specs.Result.{IfErr, IfOk}
 use Rattle.msg_codec.specs.declared.letter.Letter.{Letter}
@@ -7,6 +7,7 @@ use Rattle.ygm_route.specs.declared.scheme.Scheme.TheVariants.{Direct}
 use Rattle.ygm_route.specs.Layout.{Shape}
 use Rattle.world_core.specs.declared.entry.Entry.{Entry}
 use Rattle.world_core.specs.declared.entry.Entry.TheVariants.{Put, Took}
+use Rattle.world_core.specs.Limits.{most_letters}
 use Rattle.world_core.specs.Local.{Local}
 use Rattle.world_core.specs.Log.{batches_taken, letters_of, letters_taken}
 use Rattle.world_core.specs.Modest.{IsLawful, IsModest}
@@ -25,7 +26,7 @@ use Rattle.comm_rank.specs.Rank.{Rank, held_letters, local_of, ran_at, sent_to}
 use Rattle.comm_rank.specs.Turns.{FirstFull, IsPut}
 use Rattle.comm_rank.proofs.Agrees.Direct.{nothing_to_forward}
 
--- ---- what a log took stands as it gains puts
+-- ---- what a log took is unchanged when it gains puts
 
 pub same_taken : (placed log : List Entry) → AllByRecursion IsPut placed → letters_taken (log ++ placed) ≡ letters_taken log
 same_taken [] log all = ap letters_taken (append-nil log)
@@ -56,7 +57,7 @@ modest_still me placed all modest =
 -- ---- the rank
 
 module _ {C : Type 0} (apply : Applies C) (start : C → C) (me : Rank C) (log : List Entry) (agrees : Agrees apply start me log) (direct : me.scheme ≡ Direct) where
-  -- it holds own letters alone
+  -- it holds only its own letters
   pub own_alone : (from to : ℕ) → from ≢ me.here → of_pair from to (held_letters me) ≡ []
   own_alone from to other = agrees.forwards from to other ∙ nothing_to_forward (local_of me log) direct agrees.modest from to
 
@@ -82,9 +83,9 @@ module _ {C : Type 0} (apply : Applies C) (start : C → C) (me : Rank C) (log :
             sent_count = agrees.sent_count ∙ sym count_unchanged;
             run_count = agrees.run_count ∙ ap length (sym ran_unchanged);
             contents = agrees.contents ∙ ap (fold_from apply me.here me.layout.ranks (start me.contents)) (sym ran_unchanged);
-            answered = λ to.
+            given_is_sent = λ to.
                 let Q : List Letter → List Letter → Type 0 = λ ran sent. IsSublist (of_pair me.here to (handed_from apply me.here me.layout.ranks (start me.contents) ran)) sent in
-                subst (λ ran. Q ran (sent_to new now to)) (sym ran_unchanged) (subst (λ sent. Q (ran_at me log) sent) (sym (sent_unchanged to)) (agrees.answered to));
+                subst (λ ran. Q ran (sent_to new now to)) (sym ran_unchanged) (subst (λ sent. Q (ran_at me log) sent) (sym (sent_unchanged to)) (agrees.given_is_sent to));
             modest = modest;
           }
 
@@ -94,7 +95,7 @@ module _ {C : Type 0} (apply : Applies C) (start : C → C) (me : Rank C) (old :
   agrees : Agrees apply start me (old.log me.here)
   agrees = belongs.agrees
 
-  pub may_put : me.here < me.layout.ranks → length me.held ≡ me.layout.ranks → me.sent_count ≤ 2 ^ 56 → MayPut me.here me.held old
+  pub may_put : me.here < me.layout.ranks → length me.held ≡ me.layout.ranks → me.sent_count ≤ most_letters → MayPut me.here me.held old
   may_put within all few =
       let ranks : old.layout.ranks ≡ me.layout.ranks = ap (λ (l : Shape). l.ranks) belongs.layout in
       record {

@@ -19,7 +19,7 @@ not_of_pair from to here l mine other = false_from_ne_true (is_of_pair from to l
     other (sym (eqb-true l.from from (and_second (is_data l) (nat_eq l.from from) (and_first (is_data l && nat_eq l.from from) (nat_eq l.to to) yes))) ∙ mine))
 
 module _ {C : Type 0} (apply : Applies C) (start : C → C) (me : Rank C) (log : List Entry) (agrees : Agrees apply start me log) (held : List (List Letter)) (count : ℕ) where
-  -- one letter more of its own is held and counted
+  -- one more letter of its own is held and counted
   pub agrees_sent : (l : Letter) → l.from ≡ me.here → IsTrue (is_data l) → Gains (held_letters me) (letters_of held) (l ∷ []) → count ≡ me.sent_count + 1 →
       Agrees apply start (record me { sent_count = count; held = held }) log
   agrees_sent l mine tagged gains counted =
@@ -32,10 +32,10 @@ module _ {C : Type 0} (apply : Applies C) (start : C → C) (me : Rank C) (log :
         sent_count = omega (arith, counted, agrees.sent_count, gains.senders me.here, one);
         run_count = agrees.run_count;
         contents = agrees.contents;
-        answered = λ to.
+        given_is_sent = λ to.
             let longer : sent_to me log to ++ of_pair me.here to (l ∷ []) ≡ sent_to (record me { sent_count = count; held = held }) log to =
             append_assoc (pair_put me.here to log) (of_pair me.here to (held_letters me)) (of_pair me.here to (l ∷ [])) ∙ ap (λ xs. pair_put me.here to log ++ xs) (sym (gains.pairs me.here to)) in
-            subst (IsSublist _) longer (sublist_longer (of_pair me.here to (l ∷ [])) (agrees.answered to));
+            subst (IsSublist _) longer (sublist_longer (of_pair me.here to (l ∷ [])) (agrees.given_is_sent to));
         modest = agrees.modest;
       }
 

@@ -1,5 +1,5 @@
 -- A rank takes a batch, and runs its letters.
-use Rattle.std.proofs.Common.{◌≡◌, ◌≢◌, ℕ, ◌+◌, ◌<◌, ◌≤◌, ◌^◌, true, false, nat_eq, eq-eqb, ne_eqb, List, [], ◌∷◌, ◌++◌, length, drop, refl, sym, ap, ◌∙◌, subst, inl, inr, arith, append-nil, append_assoc, length-append}
+use Rattle.std.proofs.Common.{◌≡◌, ◌≢◌, ℕ, ◌+◌, ◌<◌, ◌≤◌, true, false, nat_eq, eq-eqb, ne_eqb, List, [], ◌∷◌, ◌++◌, length, drop, refl, sym, ap, ◌∙◌, subst, inl, inr, arith, append-nil, append_assoc, length-append}
 use Rattle.std.specs.Bool.{IsTrue}
 use Rattle.std.specs.List.{AllByRecursion}
 use Rattle.std.proofs.lemmas.Bool.{cases_eq}
@@ -10,6 +10,7 @@ use Rattle.ygm_route.specs.declared.scheme.Scheme.TheVariants.{Direct}
 use Rattle.ygm_route.specs.Layout.{Shape}
 use Rattle.world_core.specs.declared.entry.Entry.{Entry}
 use Rattle.world_core.specs.declared.entry.Entry.TheVariants.{Put, Took}
+use Rattle.world_core.specs.Limits.{most_arrived}
 use Rattle.world_core.specs.Local.{Local, to_forward}
 use Rattle.world_core.specs.Log.{batches_put, batches_taken, letters_taken}
 use Rattle.world_core.specs.Modest.{IsModest}
@@ -33,7 +34,7 @@ use Rattle.comm_rank.proofs.Fold.Appended.{fold-append, handed-append, start_fol
 use Rattle.comm_rank.proofs.Running.RunAll.{rest_for}
 use Rattle.comm_rank.proofs.Turns.Faults.{if_full}
 
--- ---- the batch waits
+-- ---- the letters of the batch wait
 
 pub ran_waiting : {C : Type 0} (apply : Applies C) (was old new : Rank C) (waiting batch : List Letter) → was ≡ old → waiting ≡ batch →
     HasRunAll apply (record was { waiting = waiting }) new waiting → HasRunAll apply old new batch
@@ -161,7 +162,7 @@ module _ {C : Type 0} (apply : Applies C) (old new : Rank C) (log after : List E
   pub cut_from : old.waiting ≡ [] → (fault : CommFault) → StuckIn apply old new batch fault → WasCutFrom from apply old new log after fault
   cut_from before fault stuck = record {
     cut_from = cut_at before fault stuck;
-    full_at_first = if_full fault (λ _ behind. record { run = stuck.run; ran = ran_some before stuck.run stuck.waits; behind = behind }) stuck.full_at_first;
+    full_at_first = if_full fault (λ _ full. record { run = stuck.run; ran = ran_some before stuck.run stuck.waits; full = full }) stuck.full_at_first;
     cause = stuck.cause;
   }
 
@@ -197,7 +198,7 @@ module _ {C : Type 0} (apply : Applies C) (old new : Rank C) (log after : List E
               ∙ ap (λ c. fold_from apply here n c (ran_at new after)) (sym started)
               ∙ ap (λ m. fold_from apply here m (start new.contents) (ran_at new after)) (sym ranks)
               ∙ ap (λ h. fold_from apply h new.layout.ranks (start new.contents) (ran_at new after)) (sym same.here);
-          answered = λ to.
+          given_is_sent = λ to.
               let gave : of_pair new.here to (handed_from apply new.here new.layout.ranks (start new.contents) (ran_at new after))
               ≡ of_pair here to (handed_from apply here n (start old.contents) (ran_at old log)) ++ of_pair here to given =
               ap (λ h. of_pair h to (handed_from apply new.here new.layout.ranks (start new.contents) (ran_at new after))) same.here
@@ -205,7 +206,7 @@ module _ {C : Type 0} (apply : Applies C) (old new : Rank C) (log after : List E
               ∙ filter-append (is_of_pair here to) (handed_from apply here n (start old.contents) (ran_at old log)) given in
               let P : List Letter → Type 0 = λ xs. IsSublist xs (sent_to new after to) in
               let Q : List Letter → Type 0 = λ xs. IsSublist (of_pair here to (handed_from apply here n (start old.contents) (ran_at old log)) ++ of_pair here to given) xs in
-              subst P (sym gave) (subst Q (sym (adv.sent to)) (sublist_append (of_pair here to given) (agrees.answered to)));
+              subst P (sym gave) (subst Q (sym (adv.sent to)) (sublist_append (of_pair here to given) (agrees.given_is_sent to)));
           modest = subst IsModest (local_is old new after same) modest;
         }
 
@@ -247,7 +248,7 @@ arrival {C} apply start old there before told from batch here same belongs direc
     }
 
 pub few_run : {C : Type 0} (apply : Applies C) (start : C → C) (old : Rank C) (before told : Told) (from : ℕ) (batch : List Letter) → Arrival old before told from batch →
-    Agrees apply start old (before.log old.here) → old.run_count + length batch ≤ 2 ^ 62
+    Agrees apply start old (before.log old.here) → old.run_count + length batch ≤ most_arrived
 few_run apply start old before told from batch a agrees =
     let there : arrived old.here (told.log old.here) ≡ arrived old.here (before.log old.here) ++ batch =
     ap (arrived old.here) a.gained ∙ arrived-took old.here (before.log old.here) from batch ∙ ap (λ xs. arrived old.here (before.log old.here) ++ xs) (for_all old.here batch a.all) in
@@ -257,7 +258,7 @@ pub waiting_for : {C : Type 0} (was old : Rank C) (batch waiting : List Letter) 
 waiting_for {C} was old batch waiting e f all =
     subst (λ h. AllByRecursion (IsFor h) waiting) (sym (ap (λ (me : Rank C). me.here) e)) (subst (AllByRecursion (IsFor old.here)) (sym f) all)
 
-pub few_waiting : {C : Type 0} (was old : Rank C) (batch waiting : List Letter) → was ≡ old → waiting ≡ batch → old.run_count + length batch ≤ 2 ^ 62 → was.run_count + length waiting ≤ 2 ^ 62
+pub few_waiting : {C : Type 0} (was old : Rank C) (batch waiting : List Letter) → was ≡ old → waiting ≡ batch → old.run_count + length batch ≤ most_arrived → was.run_count + length waiting ≤ most_arrived
 few_waiting {C} was old batch waiting e f few = omega (arith, ap (λ (me : Rank C). me.run_count) e, ap length f, few)
 
 pub same_from : {C : Type 0} (was old new : Rank C) (waiting : List Letter) → was ≡ old → IsSameRank (record was { waiting = waiting }) new → IsSameRank old new
@@ -265,7 +266,7 @@ same_from {C} was old new waiting e same =
     let there : IsSameRank was new = record { layout = same.layout; scheme = same.scheme; here = same.here; most = same.most } in
     subst (λ (me : Rank C). IsSameRank me new) e there
 
--- honesty, as the same rank sees it
+-- honesty, for the same rank
 pub honest_on : {C : Type 0} (me old : Rank C) (log after : ℕ → List Entry) → IsSameRank old me → (IsHonest (local_of me (log me.here)) → IsHonest (local_of me (after me.here))) →
     IsHonest (local_of old (log old.here)) → IsHonest (local_of old (after old.here))
 honest_on me old log after same keeps h =
@@ -275,8 +276,8 @@ honest_on me old log after same keeps h =
 
 -- ---- the links of the others
 
-pub link_stands : (here from other : ℕ) (batch : List Letter) (old new : Told) → new.log here ≡ old.log here ++ Took from batch ∷ [] → other ≢ from → SamePost here old new → link_in new other here ≡ link_in old other here
-link_stands here from other batch old new gained ne same =
+pub link_unchanged : (here from other : ℕ) (batch : List Letter) (old new : Told) → new.log here ≡ old.log here ++ Took from batch ∷ [] → other ≢ from → SamePost here old new → link_in new other here ≡ link_in old other here
+link_unchanged here from other batch old new gained ne same =
     let taken : batches_taken other (new.log here) ≡ batches_taken other (old.log here) = taken_other from other batch (old.log here) (new.log here) gained ne in
     let put : batches_put here (new.log other) ≡ batches_put here (old.log other) = elim (cases_eq other here) [
       | inl e ↦

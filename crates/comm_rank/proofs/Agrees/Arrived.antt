@@ -1,4 +1,4 @@
--- What a log has once it gained a take, and what ran then.
+-- What a log has after it gained a take, and what ran then.
 use Rattle.std.proofs.Common.{◌≡◌, ◌≢◌, ℕ, suc, ◌-◌, ◌<◌, Bool, true, false, ◌&&◌, not, nat_eq, eqb-true, eq-eqb, List, [], ◌∷◌, ◌++◌, length, take, drop, refl, sym, ap, ◌∙◌, subst, arith, append-nil, length-append, if◌then◌else◌}
 use Rattle.std.specs.Bool.{IsTrue}
 use Rattle.std.specs.List.{AllByRecursion}
@@ -29,7 +29,7 @@ use Rattle.world_core.proofs.Log.ByLink.{all_taken}
 use Rattle.comm_rank.specs.Rank.{Rank, ran_at}
 use Rattle.comm_rank.specs.Running.{IsFor, IsOf}
 
--- ---- letters for a rank, and of it
+-- ---- letters for a rank, and from it
 
 pub for_all : (here : ℕ) (xs : List Letter) → AllByRecursion (IsFor here) xs → for_rank here xs ≡ xs
 for_all here [] h = refl
@@ -127,7 +127,7 @@ first_part xs ys n e =
     let size : length (xs ++ ys) - n ≡ length xs = omega (arith, e, length-append xs ys) in
     ap (λ k. take k (xs ++ ys)) size ∙ take-append_seam xs ys
 
--- of all that arrived, what doesn't wait ran
+-- of all that arrived, what doesn't wait has run
 pub ran_is : {C : Type 0} (me : Rank C) (log : List Entry) (run waiting : List Letter) → arrived me.here log ≡ run ++ waiting → for_rank me.here me.waiting ≡ waiting → ran_at me log ≡ run
 ran_is me log run waiting all waits =
     ap (λ xs. take (length xs - length (for_rank me.here me.waiting)) xs) all

@@ -40,7 +40,7 @@ direct_link layout s d a b h = by_most layout.ranks h
     by_most (suc most) k = one_link (hop layout Direct s d) d s a b (stops layout Direct most (hop layout Direct s d) d) (hop-direct layout s d) k
 
 module _ (me : Local) (direct : me.scheme ≡ Direct) (modest : IsModest me) where
-  -- the data letters that it took are for itself
+  -- all data letters that it took are for itself
   pub taken_here : AllByRecursion (λ (l : Letter). IsTrue (is_data l) → l.to ≡ me.here) (letters_taken me.log)
   taken_here = all_taken _ me.log (λ from. all_weaker _ _ (letters_of (batches_taken from me.log))
       (λ l on tagged.

@@ -29,6 +29,6 @@ agrees_fresh apply start layout scheme here most contents direct fresh =
       sent_count = omega (arith, ap (λ xs. length (of_sender here xs)) none);
       run_count = refl;
       contents = sym fresh;
-      answered = λ to. sublist_nil _;
+      given_is_sent = λ to. sublist_nil _;
       modest = modest;
     }

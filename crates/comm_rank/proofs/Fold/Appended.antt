@@ -1,4 +1,4 @@
--- Folds and what handlers give, of letters that follow others.
+-- Folds over letters that follow others, and what handlers give by them.
 use Rattle.std.proofs.Common.{◌≡◌, ℕ, List, [], ◌∷◌, ◌++◌, refl, sym, ap, ◌∙◌, append_assoc}
 use Rattle.msg_codec.specs.declared.letter.Letter.{Letter}
 use Rattle.comm_rank.specs.Fold.{Applies, given_by, fold_from, handed_from}
@@ -15,7 +15,7 @@ handed-append apply here ranks c (x ∷ xs) ys =
     ap (λ w. given_by apply here ranks c x ++ w) (handed-append apply here ranks (apply c here ranks x).0 xs ys)
     ∙ sym (append_assoc (given_by apply here ranks c x) (handed_from apply here ranks (apply c here ranks x).0 xs) _)
 
--- the start is that of the first contents
+-- running letters doesn't change the start
 pub start_fold : {C : Type 0} (apply : Applies C) (start : C → C) → ((c : C) (here ranks : ℕ) (l : Letter) → start (apply c here ranks l).0 ≡ start c) →
     (here ranks : ℕ) (c : C) (ls : List Letter) → start (fold_from apply here ranks c ls) ≡ start c
 start_fold apply start keeps here ranks c [] = refl

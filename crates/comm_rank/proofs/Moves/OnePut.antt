@@ -1,5 +1,5 @@
 -- A put of an own letter that goes straight to its destination.
-use Rattle.std.proofs.Common.{◌≡◌, ◌≢◌, ℕ, ◌+◌, ◌<◌, ◌^◌, Bool, true, false, not, ◌||◌, ◌&&◌, nat_eq, lt-ltb, eq-eqb, ◌==◌, None, Err, List, [], ◌∷◌, ◌++◌, length, set, refl, sym, ap, ◌∙◌, subst, append-nil, append_assoc, arith, length-append, inl, inr}
+use Rattle.std.proofs.Common.{◌≡◌, ◌≢◌, ℕ, ◌+◌, ◌<◌, Bool, true, false, not, ◌||◌, ◌&&◌, nat_eq, lt-ltb, eq-eqb, ◌==◌, None, Err, List, [], ◌∷◌, ◌++◌, length, set, refl, sym, ap, ◌∙◌, subst, append-nil, append_assoc, arith, length-append, inl, inr}
 use Rattle.std.specs.Bool.{IsTrue}
 use Rattle.std.proofs.lemmas.Bool.{cases_eq}
 use Rattle.std.proofs.lemmas.List.{set-set, set-get_or}
@@ -10,6 +10,7 @@ use Rattle.ygm_route.specs.Hop.{hop}
 use Rattle.ygm_route.proofs.Hops.{hop-direct}
 use Rattle.world_core.specs.declared.entry.Entry.{Entry}
 use Rattle.world_core.specs.declared.entry.Entry.TheVariants.{Put}
+use Rattle.world_core.specs.Limits.{most_letters}
 use Rattle.world_core.specs.Local.{Local, having_put}
 use Rattle.world_core.specs.Log.{letters_of}
 use Rattle.world_core.specs.Pairs.{is_data, is_of_pair, of_pair, of_sender, own, pair_put, sent}
@@ -45,7 +46,7 @@ or_nothing true h = h
 or_nothing false h = h
 
 pub unbroken_put : (me : Local) (to : ℕ) (l : Letter) → me.here < me.layout.ranks → to < me.layout.ranks → me.scheme ≡ Direct →
-    l.to ≡ to → l.from ≡ me.here → IsTrue (is_data l) → length (own me.here me.log) < 2 ^ 56 →
+    l.to ≡ to → l.from ≡ me.here → IsTrue (is_data l) → length (own me.here me.log) < most_letters →
     first_broken me (Puts to (l ∷ [])) ≡ None
 unbroken_put me to l here_within to_within direct is_to is_from tagged few =
     let start : Local = having_put me to [] in
@@ -63,7 +64,7 @@ unbroken_put me to l here_within to_within direct is_to is_from tagged few =
     (or_nothing (not_held start to l) (held_own start to l tagged is_from))
     (or_nothing (too_many_sent start to l) (not_too_many me to [] l (length (own me.here me.log)) (omega arith) mine few)))
 
--- ---- it is of the rank's own
+-- ---- it is the rank's own
 
 -- where a rank holds own letters alone, the first is its own
 own_letter : (here : ℕ) (before after : List (List Letter)) (l : Letter) → ((from to : ℕ) → from ≢ here → of_pair from to (letters_of before) ≡ []) →
@@ -150,11 +151,11 @@ moved_none here before after old new held log keeps = record {
   keeps = keeps;
 }
 
--- the letter that left is held again
+-- the letter that was to be put is held again
 pub given_back : (to : ℕ) (old mid now : List (List Letter)) (rest batch back : List Letter) → mid ≡ set old to rest → held_for old to ≡ batch ++ held_for mid to →
     back ≡ batch → now ≡ set mid to (back ++ held_for mid to) → now ≡ old
-given_back to old mid now rest batch back left first same again =
-    again ∙ ap (λ b. set mid to (b ++ held_for mid to)) same ∙ ap (set mid to) (sym first) ∙ ap (λ ls. set ls to (held_for old to)) left
+given_back to old mid now rest batch back popped first same again =
+    again ∙ ap (λ b. set mid to (b ++ held_for mid to)) same ∙ ap (set mid to) (sym first) ∙ ap (λ ls. set ls to (held_for old to)) popped
     ∙ set-set old to rest (held_for old to) ∙ set-get_or old to []
 
 -- ---- one after another

@@ -1,4 +1,4 @@
--- What ran from a sender is the beginning of what that one sent.
+-- What ran from a sender is a prefix of what that sender sent.
 use Rattle.std.proofs.Common.{◌≡◌, ℕ, ◌&&◌, List, take, drop, ap, sym, ◌∙◌}
 use Rattle.std.specs.Bool.{◌==◌}
 use Rattle.std.proofs.lemmas.Bool.{and_from}

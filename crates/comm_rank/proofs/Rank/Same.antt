@@ -16,7 +16,7 @@ same_rank_more a b c first second = record {
   most = second.most ∙ first.most;
 }
 
--- work, on a rank that may be stopped meanwhile, leaves it what it is
+-- after work the rank is still the same rank, even if it was stopped meanwhile
 pub worked_same : {C : Type 0} (old new : Rank C) (stopped : Bool) → Worked (record old { stopped = stopped }) new → IsSameRank old new
 worked_same {C} old new stopped w = record {
   layout = ap (λ (me : Rank C). me.layout) w;
@@ -54,7 +54,7 @@ same_then here there a b c e first second = record {
   other_logs = λ rank ne. second.other_logs rank (λ f. ne (f ∙ e)) ∙ first.other_logs rank ne;
 }
 
--- a rank belongs to the post still, where its log there is unchanged
+-- a rank still belongs to the post where its log there is unchanged
 pub belongs_still : {C : Type 0} (apply : Applies C) (start : C → C) (me : Rank C) (here : ℕ) (a b : Told) → SamePost here a b → b.log me.here ≡ a.log me.here →
     Belongs apply start me a → Belongs apply start me b
 belongs_still apply start me here a b same log belongs = record {

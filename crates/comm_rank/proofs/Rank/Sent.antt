@@ -1,4 +1,4 @@
--- What a send is to a rank: the letter is held, and the last that was sent to its destination.
+-- What a send does to a rank: the letter is held, and is the last that was sent to its destination.
 use Rattle.std.proofs.Common.{◌≡◌, ◌≢◌, ℕ, ◌+◌, true, false, ◌&&◌, nat_eq, eq-eqb, eqb-true, List, [], ◌∷◌, ◌++◌, refl, sym, ap, ◌∙◌, append-nil, append_assoc}
 use Rattle.std.specs.Bool.{IsTrue}
 use Rattle.std.proofs.lemmas.Bool.{false_from_ne_true}

@@ -25,7 +25,7 @@ module _ {C : Type 0} (old mid : Rank C) (same : IsSameRank old mid) (a b c : To
     fulls = λ rank. second.fulls rank ∙ first.fulls rank;
   }
 
-  -- takes and then puts
+  -- takes, followed by puts
   pub puts_then : TakesKeep old a b → MoveKeeps mid.here b c → (IsHonest (local_of mid (b.log mid.here)) → IsHonest (local_of mid (c.log mid.here))) → WorkKeeps old a c
   puts_then first second honest = work_then first.work (record {
     same = second.same;

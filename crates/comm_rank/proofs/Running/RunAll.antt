@@ -1,4 +1,4 @@
--- Letters that ran one after another, and the one that could not run.
+-- Letters that ran one after another, and the one that couldn't run.
 use Rattle.std.proofs.Common.{◌≡◌, ℕ, ◌+◌, ◌<◌, List, [], ◌∷◌, ◌++◌, Some, length, map, take, drop, slice_get, lt-ltb, refl, sym, ap, ◌∙◌, subst, inl, inr, arith, append-nil, append_assoc, length-append}
 use Rattle.std.specs.List.{AllByRecursion}
 use Rattle.std.proofs.lemmas.List.{length-map, length-take-le}
@@ -11,7 +11,7 @@ use Rattle.comm_rank.specs.Fold.{Applies, letter_by, given_by, fold_from, handed
 use Rattle.world_core.specs.Log.{letters_of}
 use Rattle.comm_rank.specs.Held.{Gains}
 use Rattle.comm_rank.specs.Rank.{IsSameRank, Rank, folded, handed, held_letters}
-use Rattle.comm_rank.specs.Turns.{HasBegun, IsFullBehind}
+use Rattle.comm_rank.specs.Turns.{HasBegun, IsFullAfter}
 use Rattle.ygm_route.specs.Layout.{Shape}
 use Rattle.list_facts.proofs.Elements.{all_append, all_second}
 use Rattle.list_facts.proofs.Elements.{all_take}
@@ -29,7 +29,7 @@ given_of ranks here (o ∷ outs) h = (record { sender = refl; tag = lt-ltb o.tag
 -- ---- one letter
 
 module _ {C : Type 0} (apply : Applies C) (was old new : Rank C) (e : was ≡ old) where
-  -- its handler refused it, and nothing changed
+  -- the handler refused it, and nothing changed
   stuck_refused : new.contents ≡ was.contents → new.held ≡ was.held → new.run_count ≡ was.run_count → new.sent_count ≡ was.sent_count → IsStuck apply old new [] []
   stuck_refused contents held run_count sent_count = subst (λ (me : Rank C). IsStuck apply me new [] []) e (record {
     begun = inl (contents, refl);
@@ -39,7 +39,7 @@ module _ {C : Type 0} (apply : Applies C) (was old new : Rank C) (e : was ≡ ol
     sent_count = omega (arith, sent_count);
   })
 
-  -- its handler refused
+  -- the handler refused it, for lack of memory
   pub first_refused : new.contents ≡ was.contents → new.held ≡ was.held → new.run_count ≡ was.run_count → new.sent_count ≡ was.sent_count → new.waiting ≡ was.waiting →
       (fault : CommFault) → fault ≡ NoMemory → StuckFirst apply old new fault
   first_refused contents held run_count sent_count waits fault is = subst (StuckFirst apply old new) (sym is) (record {
@@ -55,7 +55,7 @@ module _ {C : Type 0} (apply : Applies C) (was old new : Rank C) (e : was ≡ ol
     given_is : map (letter_by was.here) outs ≡ given_by apply was.here was.layout.ranks was.contents l
     given_is = ap (map (letter_by was.here)) is
 
-    -- of what its handler gave only the first is held
+    -- of what the handler gave only the first letters are held
     pub stuck_sending : (k : ℕ) → new.waiting ≡ was.waiting → k < length outs →
         Gains (held_letters was) (held_letters new) (take k (map (letter_by was.here) outs)) → new.run_count ≡ was.run_count → new.sent_count ≡ was.sent_count + k →
         (x : List Letter) × IsStuck apply old new [] x
@@ -70,7 +70,7 @@ module _ {C : Type 0} (apply : Applies C) (was old new : Rank C) (e : was ≡ ol
       }),
     )
 
-    -- all that its handler gave is held
+    -- all that the handler gave is held
     pub ran_first : new.waiting ≡ drop 1 was.waiting → Gains (held_letters was) (held_letters new) (map (letter_by was.here) outs) →
         new.run_count ≡ was.run_count + 1 → new.sent_count ≡ was.sent_count + length outs → RanFirst apply old new
     ran_first rest held run_count sent_count =
@@ -87,19 +87,19 @@ module _ {C : Type 0} (apply : Applies C) (was old new : Rank C) (e : was ≡ ol
           };
         })
 
--- by the letter that waits first more was given than may be sent
-pub full_behind : {C : Type 0} (apply : Applies C) (was old new : Rank C) (e : was ≡ old) (outs : List Outbound) (l : Letter) → outs ≡ (apply was.contents was.here was.layout.ranks l).1 →
-    slice_get was.waiting 0 ≡ Some l → new.waiting ≡ was.waiting → was.most < was.sent_count + length outs → IsFullBehind apply old new []
-full_behind {C} apply was old new e outs l is first waits more =
+-- with the letter that waits first, the handler gave more than the rank may send
+pub full_after : {C : Type 0} (apply : Applies C) (was old new : Rank C) (e : was ≡ old) (outs : List Outbound) (l : Letter) → outs ≡ (apply was.contents was.here was.layout.ranks l).1 →
+    slice_get was.waiting 0 ≡ Some l → new.waiting ≡ was.waiting → was.most < was.sent_count + length outs → IsFullAfter apply old new []
+full_after {C} apply was old new e outs l is first waits more =
     let given = given_by apply was.here was.layout.ranks was.contents l in
     let size : length given ≡ length outs = ap (λ xs. length (map (letter_by was.here) xs)) (sym is) ∙ length-map outs (letter_by was.here) in
-    subst (λ (me : Rank C). IsFullBehind apply me new []) e (record {
+    subst (λ (me : Rank C). IsFullAfter apply me new []) e (record {
       next = l;
       waits = ap (λ w. slice_get w 0) waits ∙ first;
       too_many = omega (arith, more, size, ap length (append-nil given));
     })
 
--- not all that its handler gave could be sent
+-- not all that the handler gave could be sent
 pub first_cut_short : {C : Type 0} (apply : Applies C) (was old new : Rank C) (e : was ≡ old) (outs : List Outbound) (l : Letter) → outs ≡ (apply was.contents was.here was.layout.ranks l).1 →
     new.contents ≡ (apply was.contents was.here was.layout.ranks l).0 → AllByRecursion (IsData was.layout.ranks) outs → slice_get was.waiting 0 ≡ Some l →
     (k : ℕ) → new.waiting ≡ was.waiting → k < length outs → Gains (held_letters was) (held_letters new) (take k (map (letter_by was.here) outs)) → new.run_count ≡ was.run_count → new.sent_count ≡ was.sent_count + k →
@@ -110,7 +110,7 @@ first_cut_short {C} apply was old new e outs l is made lawful first k waits few 
       given = stuck.0;
       stuck = stuck.1;
       still_waits = waits ∙ ap (λ (me : Rank C). me.waiting) e;
-      full_at_first = if_full fault (λ _ more. full_behind apply was old new e outs l is first waits more) too_many;
+      full_at_first = if_full fault (λ _ more. full_after apply was old new e outs l is first waits more) too_many;
       cause = record {
         count_full = subst (λ (me : Rank C). IsFullAt new.sent_count me.most fault) e count_full;
         gave = if_full fault (λ _ more. (was.contents, was.here, was.layout.ranks, l, omega (arith, few, ap length is))) too_many;
@@ -118,7 +118,7 @@ first_cut_short {C} apply was old new e outs l is made lawful first k waits few 
       };
     }
 
--- what a handler gave where nothing was given before, and what it made of its contents
+-- what a handler gave, where nothing had been given before, and its new contents
 pub outs_are : {C : Type 0} (apply : Applies C) (here n m : ℕ) (c : C) (l : Letter) (old new : List Outbound) → n ≡ m → old ≡ [] → new ≡ old ++ (apply c here n l).1 → new ≡ (apply c here m l).1
 outs_are apply here n m c l old new same none is =
     is ∙ ap (λ (w : List Outbound). w ++ (apply c here n l).1) none ∙ ap (λ k. (apply c here k l).1) same
@@ -129,7 +129,7 @@ made_are apply here n m c new l same is = is ∙ ap (λ k. (apply c here k l).0)
 -- ---- letter after letter
 
 module _ {C : Type 0} (apply : Applies C) (old mid new : Rank C) (same_here : mid.here ≡ old.here) (same_layout : mid.layout ≡ old.layout) where
-  -- what runs at a rank later runs at the contents that the first letters left
+  -- what runs later at a rank runs on the contents after the first letters
   later_fold : (c : C) (xs : List Letter) → mid.contents ≡ c → folded apply mid xs ≡ fold_from apply old.here old.layout.ranks c xs
   later_fold c xs e =
       ap (λ h. fold_from apply h mid.layout.ranks mid.contents xs) same_here
@@ -184,20 +184,20 @@ module _ {C : Type 0} (apply : Applies C) (old mid new : Rank C) (same_here : mi
       }
 
   pub full_later : (run more : List Letter) → mid.most ≡ old.most → mid.contents ≡ folded apply old run → mid.sent_count ≡ old.sent_count + length (handed apply old run) →
-      IsFullBehind apply mid new more → IsFullBehind apply old new (run ++ more)
-  full_later run more most contents sent behind =
-      let all = more ++ behind.next ∷ [] in
+      IsFullAfter apply mid new more → IsFullAfter apply old new (run ++ more)
+  full_later run more most contents sent full =
+      let all = more ++ full.next ∷ [] in
       record {
-        next = behind.next;
-        waits = behind.waits;
+        next = full.next;
+        waits = full.waits;
         too_many = omega (
           arith,
-          behind.too_many,
+          full.too_many,
           most,
           sent,
           ap length (handed_on run contents all),
           length-append (handed apply old run) (handed apply mid all),
-          ap (λ xs. length (handed apply old xs)) (append_assoc run more (behind.next ∷ [])),
+          ap (λ xs. length (handed apply old xs)) (append_assoc run more (full.next ∷ [])),
         );
       }
 
@@ -209,7 +209,7 @@ stuck_among apply old mid new same run waits ran fault stuck = record {
   given = stuck.given;
   waits = waits ∙ ap (λ w. run ++ w) (sym stuck.still_waits) ∙ ap (λ w. w ++ new.waiting) (sym (append-nil run));
   stuck = stuck_later apply old mid new same.here same.layout run [] stuck.given ran stuck.stuck;
-  full_at_first = if_full fault (λ _ behind. full_later apply old mid new same.here same.layout run [] same.most ran.contents ran.sent_count behind) stuck.full_at_first;
+  full_at_first = if_full fault (λ _ full. full_later apply old mid new same.here same.layout run [] same.most ran.contents ran.sent_count full) stuck.full_at_first;
   cause = cause_on apply old mid new same.most fault stuck.cause;
 }
 

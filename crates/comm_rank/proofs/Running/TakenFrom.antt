@@ -1,8 +1,9 @@
--- What a take from one rank is to a rank that belongs to the post.
-use Rattle.std.proofs.Common.{◌≡◌, ℕ, ◌+◌, ◌<◌, ◌≤◌, ◌^◌, List, [], length, ap, sym, ◌∙◌, subst, inl}
+-- What a take from one rank does to a rank that belongs to the post.
+use Rattle.std.proofs.Common.{◌≡◌, ℕ, ◌+◌, ◌<◌, ◌≤◌, List, [], length, ap, sym, ◌∙◌, subst, inl}
 use Rattle.std.specs.List.{AllByRecursion}
 use Rattle.msg_codec.specs.declared.letter.Letter.{Letter}
 use Rattle.ygm_route.specs.declared.scheme.Scheme.TheVariants.{Direct}
+use Rattle.world_core.specs.Limits.{most_arrived}
 use Rattle.world_core.specs.Post.{CountsNeverFall, TakeKeeps, Told, TookBatch, TookNone}
 use Rattle.world_core.specs.Rules.{IsHonest}
 use Rattle.world_core.proofs.Posts.CountsNeverFall.{after_took, after_took_none}
@@ -12,7 +13,7 @@ use Rattle.comm_rank.specs.Fold.{Applies}
 use Rattle.comm_rank.specs.Rank.{IsSameRank, Rank, local_of}
 use Rattle.comm_rank.specs.Running.{HasRunAll, HasTakenFrom, IsFor, StuckIn, TakesKeep, WasCutFrom}
 use Rattle.comm_rank.proofs.Rank.Same.{belongs_still}
-use Rattle.comm_rank.proofs.Agrees.AfterTake.{Arrival, agrees_now, arrival, cut_from, few_run, honest_took, link_stands, looked_none, not_looked_none, same_log, taken_here, taken_other, took_from, took_none}
+use Rattle.comm_rank.proofs.Agrees.AfterTake.{Arrival, agrees_now, arrival, cut_from, few_run, honest_took, link_unchanged, looked_none, not_looked_none, same_log, taken_here, taken_other, took_from, took_none}
 
 module _ {C : Type 0} (apply : Applies C) (start : C → C) (old : Rank C) (there from : ℕ) (before after : Told) (e : there ≡ old.here) (belongs : Belongs apply start old before) (keeps : TakeKeeps there before after) where
   takes_keep : CountsNeverFall before after → (IsHonest (local_of old (before.log old.here)) → IsHonest (local_of old (after.log old.here))) → TakesKeep old before after
@@ -49,7 +50,7 @@ module _ {C : Type 0} (apply : Applies C) (start : C → C) (old : Rank C) (ther
     pub batch_for : AllByRecursion (IsFor old.here) batch
     batch_for = arrived.all
 
-    pub batch_few : old.run_count + length batch ≤ 2 ^ 62
+    pub batch_few : old.run_count + length batch ≤ most_arrived
     batch_few = few_run apply start old before after from batch arrived belongs.agrees
 
     pub batch_keeps : TakesKeep old before after
@@ -78,6 +79,6 @@ module _ {C : Type 0} (apply : Applies C) (start : C → C) (old : Rank C) (ther
               taken = taken_other from other batch log now arrived.gained ne;
               misses = took.misses other;
               serves = keeps.same.serves other;
-              link = link_stands old.here from other batch before after arrived.gained ne (same_log there old.here before after e keeps.same);
+              link = link_unchanged old.here from other batch before after arrived.gained ne (same_log there old.here before after e keeps.same);
             };
           }

@@ -127,7 +127,7 @@ module _ {C : Type 0} (apply : Applies C) (old mid new : Rank C) (before between
         record {
           run = run ++ second.run;
           ran = second.ran ∙ ap (λ xs. xs ++ second.run) ahead.ran ∙ append_assoc (ran_at old before) run second.run;
-          behind = full_later apply old mid new same.here same.layout run second.run same.most ahead.contents ahead.sent_count second.behind;
+          full = full_later apply old mid new same.here same.layout run second.run same.most ahead.contents ahead.sent_count second.full;
         }
 
     pub cut_later : (fault : CommFault) → WasCutFrom from apply mid new between after fault → WasCut apply old new before after fault
@@ -151,15 +151,15 @@ took_nothing apply me log bound none = record {
 
 -- ---- at the post
 
--- what happens afterwards takes nothing from the rank and misses nothing there, as puts do
-pub looked_still : (here from : ℕ) (a b c : Told) → LookedAt here from a b → batches_taken from (c.log here) ≡ batches_taken from (b.log here) → c.misses from ≡ b.misses from → LookedAt here from a c
-looked_still here from a b c looked taken misses = elim looked [
+-- what comes later takes nothing from the rank and counts no miss there, as puts do
+pub looked_unchanged : (here from : ℕ) (a b c : Told) → LookedAt here from a b → batches_taken from (c.log here) ≡ batches_taken from (b.log here) → c.misses from ≡ b.misses from → LookedAt here from a c
+looked_unchanged here from a b c looked taken misses = elim looked [
   | inl took ↦ inl (ap length taken ∙ took)
   | inr missed ↦ inr (subst (Rose (a.misses from)) (sym misses) missed.0, missed.1)
 ]
 
 pub looked_later : (here from : ℕ) (a b c : Told) → LookedAt here from a b → NotLookedAt here from b c → LookedAt here from a c
-looked_later here from a b c looked not = looked_still here from a b c looked not.taken not.misses
+looked_later here from a b c looked not = looked_unchanged here from a b c looked not.taken not.misses
 
 pub looked_first : (here from : ℕ) (a b c : Told) → NotLookedAt here from a b → LookedAt here from b c → LookedAt here from a c
 looked_first here from a b c not looked = elim looked [

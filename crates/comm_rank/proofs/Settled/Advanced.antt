@@ -38,16 +38,16 @@ same_links_more x y z first second = record {
 }
 
 module _ {C : Type 0} (apply : Applies C) where
-  -- a rank that stands
-  pub stands : (before after : List (Rank C)) (old new : Plain) (rank : ℕ) → slice_get after rank ≡ slice_get before rank → log_of new.world rank ≡ log_of old.world rank →
+  -- a rank that is unchanged, and whose log is
+  pub advanced_unchanged : (before after : List (Rank C)) (old new : Plain) (rank : ℕ) → slice_get after rank ≡ slice_get before rank → log_of new.world rank ≡ log_of old.world rank →
       HasAdvanced apply before after old new rank
-  stands before after old new rank same log b a e f =
+  advanced_unchanged before after old new rank same log b a e f =
       let is : b ≡ a = same_Some b a (sym e ∙ sym same ∙ f) in
       let P : List Entry → Type 0 = λ xs. Advanced apply b b (log_of old.world rank) xs [] in
       ([], subst (λ (me : Rank C). Advanced apply b me (log_of old.world rank) (log_of new.world rank) []) is (subst P (sym log) (advanced_none apply b (log_of old.world rank))))
 
   pub has_advanced_none : (comms : List (Rank C)) (links : Plain) (rank : ℕ) → HasAdvanced apply comms comms links links rank
-  has_advanced_none comms links rank = stands comms comms links links rank refl refl
+  has_advanced_none comms links rank = advanced_unchanged comms comms links links rank refl refl
 
   module _ (a b c : List (Rank C)) (x y z : Plain) (same : AreSameRanks a b) (all : length b ≡ length a) where
     pub same_ranks_more : AreSameRanks b c → AreSameRanks a c
@@ -73,7 +73,7 @@ module _ {C : Type 0} (apply : Applies C) where
       stopped = failed.stopped;
       cause = failed.cause;
       raised = failed.raised;
-      stop_stands = if_stopped fault (λ stood. stood ∙ stops failed.rank) failed.stop_stands;
+      stop_stands = if_stopped fault (λ unchanged. unchanged ∙ stops failed.rank) failed.stop_stands;
       other_stops = λ other ne. failed.other_stops other ne ∙ stops other;
       others_go_on = failed.others_go_on;
       cut_off = λ before e.

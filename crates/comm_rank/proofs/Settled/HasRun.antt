@@ -23,7 +23,7 @@ pub ran_is_taken : {C : Type 0} (me : Rank C) (log : List Entry) (from to : ℕ)
 ran_is_taken me log from to here none =
     ap (of_pair from me.here) (ran_all me log none) ∙ ap (λ h. of_pair from h (for_rank h (letters_taken log))) here ∙ pair_of_rank from to (letters_taken log)
 
--- what ran of a pair begins what was sent
+-- what ran of a pair is a prefix of what was sent
 pub ran_begins_always : {C : Type 0} (world : Logs) (sender me : Rank C) → IsSound world → IsPrefix (ran_from me (log_of world me.here) sender.here) (sent_to sender (log_of world sender.here) me.here)
 ran_begins_always world sender me sound = ran_begins sender me (log_of world sender.here) (log_of world me.here) (sound.got sender.here me.here)
 
@@ -44,7 +44,7 @@ module _ {C : Type 0} (apply : Applies C) (start : C → C) (before after : List
       let long : length (ran_from a (log_of new.world to) caller) ≡ length (pair_taken caller to (log_of new.world to)) = ap length (ran_is_taken a (log_of new.world to) caller to mine.here mine.agrees.nothing_waits) in
       prefix_shorter sent ran (omega (arith, taken to within, sent_at before old caller to b e was.here, long))
 
--- a rank has sent no more to one than in all
+-- a rank has sent no more letters to one rank than in all
 pub few_to_one : {C : Type 0} (apply : Applies C) (start : C → C) (comms : List (Rank C)) (links : Plain) (rank : ℕ) (me : Rank C) → slice_get comms rank ≡ Some me → AreRanks apply start comms links →
     (to : ℕ) → sent_length comms links rank to ≤ me.sent_count
 few_to_one apply start comms links rank me there ranks to =

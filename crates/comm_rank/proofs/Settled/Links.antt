@@ -28,7 +28,7 @@ use Rattle.comm_rank.proofs.Agrees.Arrived.{crossed_direct, crossed_from}
 abbrev HasSome : List Letter → Type 0
 HasSome batch = 1 ≤ length batch
 
--- batches that hold something hold as many letters at least
+-- batches that aren't empty have at least as many letters as there are batches
 as_many : (batches : List (List Letter)) → AllByRecursion HasSome batches → length batches ≤ length (letters_of batches)
 as_many [] h = omega arith
 as_many (batch ∷ batches) h =
@@ -67,7 +67,7 @@ module _ (world : Logs) (w : IsWorld world) (direct : world.scheme ≡ Direct) (
       let b : nat_eq l.to d ≡ true = eq-eqb l.to d (to_is c d l h) in
       rw (tagged, a, b) refl
 
-  -- what was put of a pair, and what was taken, is what its link carried
+  -- what was put, and what was taken, of a pair is what its link carried
   pub put_is : (c d : ℕ) → pair_put c d (log_of world c) ≡ letters_of (batches_put d (log_of world c))
   put_is c d =
       only_put (is_of_pair c d) d (λ rank l. IsCarried world.layout world.scheme c rank l)
@@ -102,7 +102,7 @@ module _ (world : Logs) (w : IsWorld world) (direct : world.scheme ≡ Direct) (
   taken_some : (c d : ℕ) → c < world.layout.ranks → AllByRecursion HasSome (batches_taken c (log_of world d))
   taken_some c d within = all_prefix HasSome (w.sound.agree c d) (put_some c d within)
 
--- a batch more was taken, so a letter more
+-- one more batch was taken, so at least one more letter
 pub one_more : (old new : Logs) (v : IsWorld old) (w : IsWorld new) (direct : old.scheme ≡ Direct) (direct' : new.scheme ≡ Direct) (some : 0 < old.layout.ranks) (some' : 0 < new.layout.ranks) (c d : ℕ) → c < new.layout.ranks →
     (gained : List Entry) → log_of new d ≡ log_of old d ++ gained → length (batches_taken c (log_of new d)) ≡ length (batches_taken c (log_of old d)) + 1 →
     length (pair_taken c d (log_of old d)) + 1 ≤ length (pair_taken c d (log_of new d))

@@ -32,7 +32,7 @@ use Rattle.comm_rank.proofs.Agrees.AfterPuts.{same_taken}
 again : (from to : ℕ) (xs : List Letter) → of_pair from to (of_pair from to xs) ≡ of_pair from to xs
 again from to xs = filter_within (is_of_pair from to) (is_of_pair from to) xs (λ l h. h)
 
--- what was put is what was taken, and then what is in the link
+-- what was put is what was taken, followed by what is in the link
 taken_then_link : (world : Logs) → IsWorld world → world.scheme ≡ Direct → 0 < world.layout.ranks → (from to : ℕ) →
     pair_put from to (log_of world from) ≡ pair_taken from to (log_of world to) ++ of_pair from to (letters_of (link world from to))
 taken_then_link world w direct some from to =
@@ -50,7 +50,7 @@ taken_then_link world w direct some from to =
 
 -- ---- a rank
 
--- what came for the rank with this number has run, but for what waits
+-- what came for the rank with this number has run, except what waits
 record Keeps {C : Type 0} (me : Rank C) (rank : ℕ) (log : List Entry) : Type 0 where
   pub here : me.here ≡ rank
   pub arrived : arrived rank log ≡ ran_at me log ++ for_rank rank me.waiting

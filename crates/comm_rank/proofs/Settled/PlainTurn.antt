@@ -27,7 +27,7 @@ use Rattle.comm_rank.proofs.Turns.Faults.{full_at}
 use Rattle.comm_rank.proofs.Rank.Same.{same_rank_none}
 use Rattle.comm_rank.proofs.Turns.Faults.{unless_stopped_then}
 use Rattle.list_facts.proofs.Places.{item_set}
-use Rattle.comm_rank.proofs.Settled.TurnMoves.{TurnAt, others_go_on, others_stand}
+use Rattle.comm_rank.proofs.Settled.TurnMoves.{TurnAt, others_go_on, others_unchanged}
 use Rattle.comm_rank.proofs.Settled.Stops.{if_stopped}
 
 module _ {C : Type 0} (apply : Applies C) (start : C → C) (comms : List (Rank C)) (links : Plain) (rank : ℕ) (ranks : AreRanks apply start comms links) (within : rank < length comms) (read : Rank C) where
@@ -148,7 +148,7 @@ module _ {C : Type 0} (apply : Applies C) (start : C → C) (comms : List (Rank 
         raised = unless_stopped_then fault (λ f. f.raises_the_stop) failed;
         stop_stands = if_stopped fault (λ h. h.stops me.here) halted;
         other_stops = post.other_stops;
-        others = λ other ne. others_stand apply start comms old new rank me now there ranks same_rank same_there other (λ e. ne (e ∙ sym here));
+        others = λ other ne. others_unchanged apply start comms old new rank me now there ranks same_rank same_there other (λ e. ne (e ∙ sym here));
         others_go_on = λ other a ne. others_go_on apply start comms old new rank me now there ranks same_rank same_there other a (λ e. ne (e ∙ sym here));
       }
 
@@ -165,8 +165,8 @@ module _ {C : Type 0} (apply : Applies C) (start : C → C) (comms : List (Rank 
     ];
   })
 
--- ---- what is known of the rank afterwards
+-- ---- what is known of the rank after it
 
--- a fact of the rank that was read, of the rank that was written
+-- a fact of the rank that was read holds of the rank that was written
 pub of_now : {C : Type 0} (comms : List (Rank C)) (rank : ℕ) (now read : Rank C) (P : Rank C → Type 0) → rank < length comms → P (get_or (set comms rank now) rank read) → P now
 of_now comms rank now read P within = subst P (get_or-set_same comms rank now read within)

@@ -57,7 +57,7 @@ pub or_else : (a b r : Bool) → a ≡ false → r ≡ b → (a || b) ≡ r
 or_else true b r h e = absurd cc
 or_else false b r h e = sym e
 
--- a turn more
+-- one turn more
 module _ {C : Type 0} (rank : ℕ) (a b c : List (Rank C)) (x y z : Plain) (moved more : Bool) (same : z.world.layout ≡ y.world.layout)
     (round : RoundMoves rank a b x y moved) (turn : TurnMoves b c y z rank more) where
   ranks : z.world.layout.ranks ≡ y.world.layout.ranks
@@ -105,10 +105,10 @@ module _ {C : Type 0} (rank : ℕ) (a b c : List (Rank C)) (x y z : Plain) (move
 
   found_now : (moved || more) ≡ false → (from to : ℕ) → from < z.world.layout.ranks → to < rank + 1 → link z.world from to ≡ []
   found_now e from to within below =
-      let stood = same_link y z (turn.logs (or_false_second moved more e)) from to in
+      let unchanged = same_link y z (turn.logs (or_false_second moved more e)) from to in
       elim (cases_eq to rank) [
-        | inl f ↦ let P : ℕ → Type 0 = λ r. link y.world from r ≡ [] in stood ∙ subst P (sym f) (turn.found_none (or_false_second moved more e) from within)
-        | inr other ↦ stood ∙ round.found_none (or_false_first moved more e) from to (omega (arith, within, ranks)) (omega (arith, below, other))
+        | inl f ↦ let P : ℕ → Type 0 = λ r. link y.world from r ≡ [] in unchanged ∙ subst P (sym f) (turn.found_none (or_false_second moved more e) from within)
+        | inr other ↦ unchanged ∙ round.found_none (or_false_first moved more e) from to (omega (arith, within, ranks)) (omega (arith, below, other))
       ]
 
   pub turn_more : rank < z.world.layout.ranks → RoundMoves (rank + 1) a c x z (moved || more)
@@ -144,7 +144,7 @@ module _ {C : Type 0} (a b c : List (Rank C)) (x y z : Plain) (caller rounds : �
   ranks_there : z.world.layout.ranks ≡ y.world.layout.ranks
   ranks_there = ap (λ (s : Shape). s.ranks) same
 
-  -- a round more
+  -- one round more
   pub round_more : IsNear (rounds + 1) a c x z caller
   round_more = record {
     never_less = never_less_more a b c x y z near.never_less round.never_less;
@@ -174,16 +174,16 @@ module _ {C : Type 0} (a b c : List (Rank C)) (x y z : Plain) (caller rounds : �
     loaded = λ to to_within at_most some. round.loaded caller to to_within within (inl at_most);
   }
 
-  -- a still round: there was nothing left to take
+  -- a round that moved nothing: nothing remained to be taken
   pub still_round : moved ≡ false → AllTaken a x z caller
   still_round still to to_within =
       let before = near.never_less caller to in
       let now = round.never_less caller to in
-      let stood : taken_length z caller to ≡ taken_length y caller to = same_taken y z (round.logs still) caller to in
+      let unchanged : taken_length z caller to ≡ taken_length y caller to = same_taken y z (round.logs still) caller to in
       elim (cases_lt caller to) [
         | inl lower ↦ elim (round.nearer caller to within to_within (inl lower)) [
           | inl all ↦ omega (arith, all, before.0)
-          | inr one ↦ absurd (omega (arith, one, stood))
+          | inr one ↦ absurd (omega (arith, one, unchanged))
         ]
         | inr at_most ↦
             let all = round.loaded caller to to_within within (inl (omega (arith, at_most))) (round.found_none still caller to within to_within) in

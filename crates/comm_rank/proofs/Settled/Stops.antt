@@ -32,7 +32,7 @@ raised_by old fault = if_stopped fault (λ raised. raised (λ rank within. lt-lt
 pub same_stops_more : (x y z : Plain) → SameStops (told_by x) (told_by y) → SameStops (told_by y) (told_by z) → SameStops (told_by x) (told_by z)
 same_stops_more x y z first second = λ rank. second rank ∙ first rank
 
--- where the same ranks have raised it, it is raised as before
+-- where the same ranks have raised it, it is raised or not as before
 pub same_stopped : (x y : Plain) → SameStops (told_by x) (told_by y) → is_stopped y ≡ is_stopped x
 same_stopped x y same = by_test (is_stopped y) (is_stopped x) refl refl where
   raised_too : (v w : Plain) → SameStops (told_by v) (told_by w) → is_stopped w ≡ true → is_stopped v ≡ true
@@ -54,11 +54,11 @@ sees_by links r sees rank served raised = sees (rank, ltb-true rank links.world.
 meets : {T : Type 0} (links : Plain) (r : Result T CommFault) → SeesTheStop links r → SomeRaised (told_by links) → r ≡ Err Stopped
 meets links r sees some = sees some.0 (lt-ltb some.0 links.world.layout.ranks some.1) some.2
 
--- a call that ended met none
+-- a call that returned Ok met none
 pub met_none : {T : Type 0} (links : Plain) (r : Result T CommFault) (value : T) → r ≡ Ok value → SeesTheStop links r → SomeRaised (told_by links) → ⊥
 met_none links r value is sees some = let met : r ≡ Err Stopped = meets links r sees some in cc
 
--- its fault is handed on
+-- its fault is passed on
 pub met_then : {T U : Type 0} (links : Plain) (r : Result T CommFault) (s : Result U CommFault) (fault given : CommFault) → r ≡ Err fault → s ≡ Err given → given ≡ fault →
     SeesTheStop links r → SeesTheStop links s
 met_then links r s fault given e f same sees rank served raised = let met : r ≡ Err Stopped = sees rank served raised in cc

@@ -23,7 +23,7 @@ use Rattle.comm_rank.specs.Settled.{AreRanks, AreSameLinks, AreSameRanks, HasAdv
 use Rattle.comm_rank.specs.Store.{AreApart}
 use Rattle.comm_rank.specs.Turns.{Advanced, LookedAt, NoneOrFull, Turned}
 use Rattle.list_facts.proofs.Places.{same_item, item_set, item_kept}
-use Rattle.comm_rank.proofs.Settled.Advanced.{stands}
+use Rattle.comm_rank.proofs.Settled.Advanced.{advanced_unchanged}
 use Rattle.comm_rank.proofs.Settled.Links.{carried_few, empty_link, one_more}
 use Rattle.comm_rank.proofs.Settled.Rounds.{same_taken}
 
@@ -79,8 +79,8 @@ module _ {C : Type 0} (apply : Applies C) (start : C → C) (comms : List (Rank 
     pub links_after : AreSameLinks old new
     links_after = record { layout = same.layout; scheme = same.scheme; ring = same.ring; batches = same.batches }
 
-    pub others_stand : (other : ℕ) → other ≢ rank → HasAdvanced apply comms after old new other
-    others_stand other ne = stands apply comms after old new other (item_kept comms rank other now ne) (same.other_logs other ne)
+    pub others_unchanged : (other : ℕ) → other ≢ rank → HasAdvanced apply comms after old new other
+    others_unchanged other ne = advanced_unchanged apply comms after old new other (item_kept comms rank other now ne) (same.other_logs other ne)
 
     pub others_go_on : (other : ℕ) (a : Rank C) → other ≢ rank → slice_get after other ≡ Some a → IsRankOf apply start new other a
     others_go_on other a ne e =
@@ -97,7 +97,7 @@ module _ {C : Type 0} (apply : Applies C) (start : C → C) (comms : List (Rank 
   module _ (turn : Turn) (at : TurnAt apply start me now old new turn rank) where
     pub advanced_after : (other : ℕ) → HasAdvanced apply comms after old new other
     advanced_after other = elim (cases_eq other rank) [
-      | inr ne ↦ others_stand at.same other ne
+      | inr ne ↦ others_unchanged at.same other ne
       | inl is ↦
           let P : ℕ → Type 0 = λ r. HasAdvanced apply comms after old new r in
           subst P (sym is) (λ b a e f.

@@ -1,4 +1,4 @@
--- Letters held by destination: what one more letter, or one less, is to each pair of ranks.
+-- Letters held by destination: what one letter more, or one less, means for each pair of ranks.
 use Rattle.std.proofs.Common.{◌≡◌, ◌≢◌, ℕ, zero, suc, ◌+◌, ◌<◌, Bool, true, false, ◌&&◌, ◌==◌, nat_eq, List, [], ◌∷◌, ◌++◌, length, replicate, get_or, set, refl, sym, ap, ◌∙◌, subst, inl, inr, append-nil, arith, length-append, length-set}
 use Rattle.std.specs.List.{AllByRecursion}
 use Rattle.std.proofs.lemmas.Bool.{cases_eq, false_from_ne_true}
@@ -73,7 +73,7 @@ one_changed n lists to now held within each = record {
       ];
 }
 
--- what the senders have in all, where one list changes
+-- how many letters of a sender are held, where one list changes
 pub senders_set : (s : ℕ) (lists : List (List Letter)) (to : ℕ) (now : List Letter) → to < length lists →
     length (of_sender s (letters_of (set lists to now))) + length (of_sender s (get_or lists to [])) ≡ length (of_sender s (letters_of lists)) + length (of_sender s now)
 senders_set s [] to now lt = absurd (omega arith)
@@ -97,7 +97,7 @@ senders_set s (ls ∷ lists) (suc to) now lt =
       senders_set s lists to now (omega arith),
     )
 
--- of each pair, what the changed list has
+-- of each pair, the letters of the changed list
 pair_in : (n : ℕ) (lists : List (List Letter)) (to s d : ℕ) (now : List Letter) → AreHeld n lists → to < n → AllByRecursion (IsHeldFor n to) now →
     of_pair s d (letters_of (set lists to now)) ≡ of_pair s d (get_or (set lists to now) d [])
 pair_in n lists to s d now held within each = apart n (set lists to now) d (one_changed n lists to now held within each) s

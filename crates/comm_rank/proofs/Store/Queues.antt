@@ -9,7 +9,7 @@ use Rattle.comm_rank.proofs.Store.Apart.{loses}
 use Rattle.list_facts.proofs.Elements.{all_drop, all_take}
 use Rattle.list_facts.proofs.Singles.{first_and_rest}
 
--- one list after another: these letters are held now
+-- a later list of lists: these letters are held now
 pub held_now : (n : ℕ) (lists now : List (List Letter)) → lists ≡ now → AreHeld n lists → AreHeld (length now) now
 held_now n lists now same held =
     let P : List (List Letter) → Type 0 = λ ls. AreHeld n ls in
@@ -20,7 +20,7 @@ held_now n lists now same held =
 pub held_by : (n : ℕ) (lists now : List (List Letter)) → AreHeld n lists → AreHeld (length lists) now → AreHeld n now
 held_by n lists now held h = let Q : ℕ → Type 0 = λ m. AreHeld m now in subst Q held.all h
 
--- ---- the oldest batch leaves
+-- ---- the oldest batch is removed
 
 pub out_one : (n to : ℕ) (was : List Letter) (r : Option (List Letter)) → MatchOption r (was ≡ []) (λ b. take 1 was ≡ b) → IfSome r (λ b. length b ≡ 1) →
     AllByRecursion (IsHeldFor n to) was → IfSome r (λ b. (l : Letter) × (b ≡ l ∷ []) × IsHeldFor n to l)

@@ -1,4 +1,4 @@
--- Takes and then puts: a turn.
+-- What a turn does, from its takes and its puts.
 use Rattle.std.proofs.Common.{◌≡◌, ℕ, ◌-◌, ◌^◌, min, Option, Some, None, List, [], ◌∷◌, ◌++◌, refl, sym, ap, ◌∙◌, subst, inl, inr, length, arith, append-nil}
 use Rattle.std.specs.Bool.{IsTrue}
 use Rattle.std.specs.List.{AllByRecursion}
@@ -25,8 +25,8 @@ none_taken from [] h = refl
 none_taken from (Put to letters ∷ placed) h = none_taken from placed h.1
 none_taken from (Took rank letters ∷ placed) h = absurd h.0
 
-pub taken_stand : (from : ℕ) (log after placed : List Entry) → after ≡ log ++ placed → AllByRecursion IsPut placed → batches_taken from after ≡ batches_taken from log
-taken_stand from log after placed is puts =
+pub taken_unchanged : (from : ℕ) (log after placed : List Entry) → after ≡ log ++ placed → AllByRecursion IsPut placed → batches_taken from after ≡ batches_taken from log
+taken_unchanged from log after placed is puts =
     ap (batches_taken from) is ∙ filter_map-append (took_from from) log placed ∙ ap (λ xs. batches_taken from log ++ xs) (none_taken from placed puts) ∙ append-nil (batches_taken from log)
 
 module _ {C : Type 0} (apply : Applies C) (old mid new : Rank C) (before between after : List Entry) (took : ℕ) (first : TookAll apply old mid before between took) (placed : List Entry) (out : PutOut mid new between after placed) where
@@ -77,7 +77,7 @@ module _ {C : Type 0} (apply : Applies C) (old mid new : Rank C) (before between
 
 -- ---- at the post
 
--- the rank did this between `b` and `c`; between `a` and `b` no link was found full
+-- the rank put between `b` and `c`; between `a` and `b` no link was found full
 module _ (here there : ℕ) (a b c : Told) (same : there ≡ here) (fulls : SameFulls a b) (serves : (rank : ℕ) → b.serves rank ≡ a.serves rank) where
   pub met_then : (to : ℕ) (held : List (List Letter)) → NoneOrFull there to held b c → NoneOrFull here to held a c
   met_then to held met = elim met [
@@ -103,11 +103,11 @@ pub looked_then : (here there : ℕ) (a b c : Told) → there ≡ here → SameM
 looked_then here there a b c same misses placed log puts from looked =
     let P : ℕ → Type 0 = λ h. c.log h ≡ b.log h ++ placed in
     elim looked [
-      | inl took ↦ inl (ap length (taken_stand from (b.log here) (c.log here) placed (subst P same log) puts) ∙ took)
+      | inl took ↦ inl (ap length (taken_unchanged from (b.log here) (c.log here) placed (subst P same log) puts) ∙ took)
       | inr missed ↦ inr (subst (Rose (a.misses from)) (sym (misses from)) missed.0, missed.1)
     ]
 
--- ---- a turn that failed: the rank is stopped, and its log is unchanged as the stop is raised
+-- ---- a turn that failed: the rank is stopped, and raising the stop leaves its log unchanged
 
 pub log_at : (here there : ℕ) (log after : ℕ → List Entry) → here ≡ there → after here ≡ log here → after there ≡ log there
 log_at here there log after e = subst (λ h. after h ≡ log h) e
@@ -136,7 +136,7 @@ module _ {C : Type 0} (apply : Applies C) (old was mid : Rank C) (before looked 
   full_stopped : FullAtFirst apply old mid looked after → FullAtFirst apply old (halted was) before now
   full_stopped full =
       let f = at_logs (FullAtFirst apply old) full in
-      record { run = f.run; ran = f.ran; behind = record { next = f.behind.next; waits = f.behind.waits; too_many = f.behind.too_many } }
+      record { run = f.run; ran = f.ran; full = record { next = f.full.next; waits = f.full.waits; too_many = f.full.too_many } }
 
   pub was_cut_stopped : (fault : CommFault) → WasCut apply old mid looked after fault → WasCut apply old (halted was) before now fault
   was_cut_stopped fault w =

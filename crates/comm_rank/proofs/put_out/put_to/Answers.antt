@@ -10,7 +10,7 @@ loop-k-init g c = record {
   placed = [];
   moved = moved_none c.args.here _ _ _ _ refl refl (keeps_none c.args.here _);
   count = refl;
-  left = omega arith;
+  remaining = omega arith;
   fulls = λ rank. refl;
   others = record { all = refl; others = λ other differs. refl };
   apart = c.batches_for-most.ensures.apart;
@@ -44,7 +44,7 @@ loop-k-preserved g c =
       placed = i.placed ++ p.placed;
       moved = moved_then c.args.here _ _ _ _ _ _ i.placed p.placed i.moved p.moved;
       count = omega (arith, i.count, length-append i.placed p.placed, p.count, count_of_one _ c.if-not-branch.false);
-      left = omega (arith, i.left, one.0);
+      remaining = omega (arith, i.remaining, one.0);
       fulls = λ rank. one.1 rank ∙ i.fulls rank;
       others = others_then c.args.to _ _ _ i.others c.put_first.ensures.others;
       apart = c.put_first.ensures.apart;
@@ -57,5 +57,5 @@ returns-clause-put g c =
       placed = i.placed;
       moved = i.moved;
       count = omega (arith, i.count, c.loop-k-test.false, c.loop-k.auto.k-end);
-      until = (nil_from_length _ (omega (arith, i.left, c.loop-k-test.false, c.batches_for-most.ensures.count)), i.fulls);
+      until = (nil_from_length _ (omega (arith, i.remaining, c.loop-k-test.false, c.batches_for-most.ensures.count)), i.fulls);
     }

@@ -12,7 +12,7 @@ invariant-loop-k g l = record {
   placed : List Entry;
   moved : Moved l.here l.fn.held.lists l.held.lists (g.P.Post.told l.fn.post) (g.P.Post.told l.post) placed;
   count : length placed ≡ l.k;
-  left : length (held_for l.held.lists l.to) + l.k ≡ length (held_for l.fn.held.lists l.to);
+  remaining : length (held_for l.held.lists l.to) + l.k ≡ length (held_for l.fn.held.lists l.to);
   fulls : SameFulls (g.P.Post.told l.fn.post) (g.P.Post.told l.post);
   others : OthersUnchanged l.to l.fn.held.lists l.held.lists;
   apart : AreApart l.held.lists l.to;
