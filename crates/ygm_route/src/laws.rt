@@ -1,12 +1,20 @@
-//! What holds of all paths, in every layout and scheme. Each law is the contract of a function that does
-//! nothing: a caller that calls it may rely on it.
+//! What holds of all layouts and paths. Each law is the contract of a function that does nothing: a caller
+//! that calls it may rely on it.
 ghost use Rattle.std.specs.Prelude.{◌≡◌, ◌≢◌, ◌+◌, ◌<◌, ◌≤◌, ℕ, List, [], ◌∷◌, ◌++◌, length, nat_eq, IsTrue};
 ghost use Rattle.std.specs.List.{IsDistinct};
 ghost use Rattle.list_facts.specs.Prefix.{IsPrefix, IsSuffix};
 ghost use Rattle.ygm_route.specs.declared.scheme.Scheme.{Scheme};
 ghost use Rattle.ygm_route.specs.Hop.{hop};
-ghost use Rattle.ygm_route.specs.Layout.{AreRanks, Shape, node};
+ghost use Rattle.ygm_route.specs.Layout.{AreRanks, Shape, max_ranks, node};
 ghost use Rattle.ygm_route.specs.Path.{crosses, IsPath, links, most_links, passes, path};
+
+use crate::MAX_RANKS;
+
+/// The number that bounds a layout, and the constant that has it.
+pub fn the_limit_is_this_number()
+    ensures ranks { max_ranks ≡ 32 }
+    ensures constant { MAX_RANKS ≡ max_ranks }
+{}
 
 /// Between two ranks there is one path, and no other: the next hops from the sender come to the destination.
 #[tactic(auto, using(crate::proofs::Only::path_is_path))]
@@ -95,7 +103,7 @@ pub fn paths_of_a_sender_make_a_tree()
 {}
 
 /// The tree of a sender grows link by link: the path to a rank is the path to its parent with the link
-/// from there, and it is the beginning of each path over that rank.
+/// from there, and it is a prefix of each path over that rank.
 #[tactic(auto, using(crate::proofs::PathLaws::growth))]
 pub fn trees_grow_link_by_link()
     ensures parent { (layout : Shape) (scheme : Scheme) (root to a b : ℕ) → AreRanks layout root to →
