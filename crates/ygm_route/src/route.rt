@@ -34,7 +34,7 @@ pub fn next_hop(layout: &Layout, scheme: Scheme, here: u32, to: u32) -> u32
 
 /// The number of links that a message from `here` to `to` crosses. It is 1 for a message to oneself, and
 /// otherwise at most 1, 2 and 3 in the three schemes.
-#[tactic(auto, using(crate::proofs::Lengths::link_counts))]
+#[tactic(auto, using(crate::proofs::Path::Lengths::link_counts))]
 pub fn hops_to(layout: &Layout, scheme: Scheme, here: u32, to: u32) -> u32
     requires here_within { here < layout.now.ranks }
     requires to_within { to < layout.now.ranks }
