@@ -1,4 +1,4 @@
-# make run      runs the main job on the sample data: the proved program where it is up to date, else unproved
+# make run      runs the main job on the sample data: the proved program where it is up to date, otherwise unproved
 # make          proves and builds the program
 # make test     the whole gate: proofs, must-fail edits, tests, the stored run, and the program seen from outside
 # make install  puts the proved program into PREFIX/bin

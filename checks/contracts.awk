@@ -47,7 +47,7 @@ kind == "spec" && /^(pub )?(abbrev|record) / {
 kind == "spec" && /^--/ { definition = "" }
 kind == "spec" && definition != "" {
     if (!is_record) {
-        # What it means stands behind the `=` of its equations, and not in its type.
+        # Its meaning comes after the `=` of its equations, and isn't in its type.
         if (index($0, name " ") == 1 || index($0, name "=") == 1) {
             in_equation = 1
             text[definition] = text[definition] " " substr($0, index($0, "=") + 1)
@@ -162,7 +162,7 @@ function wrong(what) {
 
 function has(list, name) { return index(list " ", " " name " ") > 0 }
 
-# Whether the fields of a path stand, each in a record that what is before it cites.
+# Whether the fields of a path are there, each in a record that what is before it cites.
 function follow(key, clause_name, path, count,    i, d, next_said, there, said, file) {
     said = text[key, clause_name]
     file = file_of[key]

@@ -1,5 +1,6 @@
 #!/bin/sh
-# The clauses that docs/contracts.md names stand where it says. Silent where they do; else a line for each that doesn't.
+# Whether the clauses that docs/contracts.md names are where it says. Silent where they are; otherwise a line for each
+# that isn't.
 #
 #   sh checks/contracts.sh [FOLDER]     FOLDER is the top of the repository, here if none is given
 #

@@ -65,7 +65,7 @@ is 'a broken pipe' 5 'ygm_run: write failed'
 cp lines ./--x
 printf '1\ta\n1\tb\n' >expected
 if ! "$program" tally -- --x >out 2>err || ! cmp -s expected out || [ -s err ]; then
-    echo 'checks/refusals.sh: a name behind -- is not taken' >&2
+    echo 'checks/refusals.sh: a name after -- is not taken' >&2
     failures=$((failures + 1))
 fi
 { printf '1\t'; cat longest; echo; } >expected

@@ -1,16 +1,17 @@
 //! How an item and its count are encoded in the body of a letter that adds to a counting set.
 ghost use Rattle.std.specs.Prelude.{◌≡◌, ◌≢◌, ◌<◌, ◌≤◌, ◌^◌, ℕ, List, ◌++◌, length, IfSome, IfNone, OnOk, OnErr};
 ghost use Rattle.std.specs.Option.{option_map};
+ghost use Rattle.msg_codec.specs.Limits.{max_body};
 ghost use Rattle.msg_codec.specs.Reading.{IsReading, body_reading, number_reading, pair_reading};
 ghost use Rattle.counting_set.specs.ItemCount.{item_count_of, spelled_item_count};
 
-use msg_codec::{MAX_BODY, WireFault, body_at, length_field, number_at};
+use msg_codec::{WireFault, body_at, length_field, number_at};
 use std::alloc::AllocError;
 
 /// Appends the encoding of a borrowed item and its count, which is that of the pair of them. Out of memory,
 /// it appends nothing.
 pub fn put_item_count(item: &[u8], count: u64, into: &mut Vec<u8>) -> Result<(), AllocError>
-    requires { length item.now ≤ MAX_BODY }
+    requires { length item.now ≤ max_body }
     ensures appended { OnOk result (into.new.items ≡ into.old.items ++ spelled_item_count item.now count) }
     ensures unchanged { OnErr result (into.new.items ≡ into.old.items) }
 {
@@ -37,8 +38,8 @@ fn item_count_at(from: &[u8]) -> Result<((&[u8], u64), usize), WireFault>
 #[tactic(auto, unfolding(crate::specs::ItemCount::item_count_of))]
 pub fn read_item_count(body: &[u8]) -> Option<(&[u8], u64)>
     ensures found { IfSome result (λ found. body.now ≡ spelled_item_count found.0.now found.1) }
-    ensures short { IfSome result (λ found. length found.0.now ≤ MAX_BODY) }
-    ensures none { IfNone result ((item : List ℕ) (count : ℕ) → length item ≤ MAX_BODY → count < 2 ^ 64 → body.now ≢ spelled_item_count item count) }
+    ensures short { IfSome result (λ found. length found.0.now ≤ max_body) }
+    ensures none { IfNone result ((item : List ℕ) (count : ℕ) → length item ≤ max_body → count < 2 ^ 64 → body.now ≢ spelled_item_count item count) }
     ensures exact { option_map (λ found. (found.0.now, found.1)) result ≡ item_count_of body.now }
 {
     match item_count_at(body) {

@@ -2,13 +2,14 @@
 ghost use Rattle.std.specs.Prelude.{◌≡◌, ◌≢◌, ◌+◌, ◌^◌, ◌<◌, ◌≤◌, ℕ, List, [], ◌∷◌, ◌++◌, Some, All, Contains, bytes_eq, length, map, sum_by};
 ghost use Rattle.std.specs.List.{IsDistinct};
 ghost use Rattle.msg_codec.specs.Bytes.{AreBytes};
+ghost use Rattle.msg_codec.specs.Limits.{max_body};
 ghost use Rattle.msg_codec.specs.declared.letter.Letter.{Letter};
 ghost use Rattle.comm_rank.specs.Fold.{fold_from, handed_from};
 ghost use Rattle.counting_set.specs.ItemCount.{item_count_of, spelled_item_count};
 ghost use Rattle.counting_set.specs.Counting.{Counts, AreCounted, counting_apply, added, count_in, capped, adds, adds_of, add_letter};
 
 use crate::counting::MAX_ITEM;
-use msg_codec::{Body, MAX_BODY, Wire};
+use msg_codec::{Body, Wire};
 
 /// After letters that add one of each line, a new shard has each distinct line once, with the number of lines
 /// equal to it, and nothing else.
@@ -62,10 +63,10 @@ pub fn item_counts_are_pairs()
 
 /// An encoded item and count are decoded again.
 pub fn item_counts_are_read_again()
-    ensures { (item : List ℕ) (count : ℕ) → length item ≤ MAX_BODY → count < 2 ^ 64 → item_count_of (spelled_item_count item count) ≡ Some (item, count) }
+    ensures { (item : List ℕ) (count : ℕ) → length item ≤ max_body → count < 2 ^ 64 → item_count_of (spelled_item_count item count) ≡ Some (item, count) }
 {}
 
 /// Different items or counts have different encodings.
 pub fn no_two_item_counts_are_spelled_alike()
-    ensures { (item other : List ℕ) (count number : ℕ) → length item ≤ MAX_BODY → length other ≤ MAX_BODY → count < 2 ^ 64 → number < 2 ^ 64 → spelled_item_count item count ≡ spelled_item_count other number → (item ≡ other) × (count ≡ number) }
+    ensures { (item other : List ℕ) (count number : ℕ) → length item ≤ max_body → length other ≤ max_body → count < 2 ^ 64 → number < 2 ^ 64 → spelled_item_count item count ≡ spelled_item_count other number → (item ≡ other) × (count ≡ number) }
 {}

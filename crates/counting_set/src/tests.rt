@@ -1,4 +1,5 @@
 ghost use Rattle.std.specs.Prelude.{◌≡◌, ◌≤◌, ◌<◌, List, [], false, length, IfOk};
+ghost use Rattle.msg_codec.specs.Limits.{max_body};
 ghost use Rattle.world_core.specs.declared.entry.Entry.{Entry};
 ghost use Rattle.world_core.specs.Plain.{told_by};
 ghost use Rattle.world_core.specs.Post.{SamePost};
@@ -26,9 +27,9 @@ fn add(alloc: Global, counting: &mut Counting, item: &[u8], count: u64) -> Resul
     run(alloc, counting, 1, &body)
 }
 
-// Runs a letter, and tells how many it made the handler send.
+// Runs a letter, and returns how many letters the handler sent then.
 fn run(alloc: Global, counting: &mut Counting, tag: u8, body: &[u8]) -> Result<u64, AllocError>
-    requires { length body.now ≤ 1048576 }
+    requires { length body.now ≤ max_body }
 {
     let letter = LetterRef {
         to: 0,

@@ -13,8 +13,7 @@ pub fn prefixes_and_suffixes_are_cuts<X>()
         suffix ≡ drop (length whole - length suffix) whole }
 {}
 
-/// Prefixes are an order, in which the prefixes of one list stand in a row: the shorter is a prefix of the
-/// longer.
+/// Prefixes are an order. Of two prefixes of one list, the shorter is a prefix of the longer.
 #[tactic(auto, using(crate::proofs::Prefix::order))]
 pub fn prefixes_are_in_order<X>()
     ensures itself { (whole : List X) → IsPrefix whole whole }

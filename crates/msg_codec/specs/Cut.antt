@@ -11,6 +11,7 @@ use Rattle.msg_codec.specs.declared.wire.WireFault.{WireFault}
 use Rattle.msg_codec.specs.declared.wire.WireFault.TheVariants.{Short, TooLong, NoMemory}
 use Rattle.msg_codec.specs.Bytes.{AreBytes}
 use Rattle.msg_codec.specs.Laws.{front_4, told_is}
+use Rattle.msg_codec.specs.Limits.{max_body}
 use Rattle.msg_codec.specs.Reading.{◌>>=◌, number_reading, told, body_reading, pair_reading}
 use Rattle.msg_codec.specs.Spelling.{spelled_number, spelled_body}
 
@@ -26,7 +27,7 @@ told_front : (front back : List ℕ) → 4 ≤ length front → told (front ++ b
 unfolding told
 told_front front back long = front_4 (front ++ back) ∙ ap (from_le_bytes w32) (take-append-le 4 front back long) ∙ sym (front_4 front)
 
-pub body_cut : (body front back : List ℕ) → length body ≤ 1048576 → spelled_body body ≡ front ++ back → back ≢ [] → body_reading front ≡ Err Short
+pub body_cut : (body front back : List ℕ) → length body ≤ max_body → spelled_body body ≡ front ++ back → back ≢ [] → body_reading front ≡ Err Short
 unfolding body_reading
 body_cut body front back short e ne =
     elim (cases_lt (length front) 4) [
@@ -34,7 +35,7 @@ body_cut body front back short e ne =
       | inr le ↦
           let is : told front ≡ length body = sym (told_front front back le) ∙ ap told (sym e ∙ sym (append-nil (spelled_body body))) ∙ told_is body [] short in
           let four : ltb (length front) 4 ≡ false = le-ltb _ _ le in
-          let most : ltb 1048576 (length body) ≡ false = le-ltb _ _ short in
+          let most : ltb max_body (length body) ≡ false = le-ltb _ _ short in
           let cut : ltb (length (drop 4 front)) (length body) ≡ true = lt-ltb _ _ (omega (arith, length-drop 4 front, shorter_part (spelled_body body) front back e ne)) in
           rw (four, is, most, cut) refl
     ]
@@ -72,7 +73,7 @@ pub body_long : (bytes more : List ℕ) → AreBytes bytes → body_reading byte
 unfolding body_reading
 body_long bytes more fit e =
     let n = told bytes in
-    let over = over_limit (ltb (length bytes) 4) (ltb 1048576 n) (ltb (length (drop 4 bytes)) n) (take n (drop 4 bytes), 4 + n) e in
+    let over = over_limit (ltb (length bytes) 4) (ltb max_body n) (ltb (length (drop 4 bytes)) n) (take n (drop 4 bytes), 4 + n) e in
     let long : 4 ≤ length bytes = ltb-false _ _ over.0 in
     let four : ltb (length (bytes ++ more)) 4 ≡ false = le-ltb _ _ (omega (arith, length-append bytes more)) in
     rw (four, told_front bytes more long, over.1) refl
@@ -143,10 +144,10 @@ body_whole false false false y is fits e = cc
 pub body_wants : (bytes : List ℕ) → AreBytes bytes → body_reading bytes ≡ Err Short → Ends body_reading bytes
 unfolding body_reading
 body_wants bytes fit e =
-    let more = zeros 1048580 in
+    let more = zeros (4 + max_body) in
     let all = bytes ++ more.0 in
     let four : ltb (length all) 4 ≡ false = le-ltb _ _ (omega (arith, more.2, length-append bytes more.0)) in
-    let whole : ltb 1048576 (told all) ≡ false → ltb (length (drop 4 all)) (told all) ≡ false =
+    let whole : ltb max_body (told all) ≡ false → ltb (length (drop 4 all)) (told all) ≡ false =
     λ most. le-ltb _ _ (omega (arith, ltb-false _ _ most, length-drop 4 all, more.2, length-append bytes more.0)) in
     (more.0, more.1, body_whole _ _ _ _ four whole)
 

@@ -10,6 +10,7 @@ use Rattle.list_facts.proofs.Outcomes.{guard_ok, same_ok}
 use Rattle.msg_codec.specs.declared.wire.WireFault.{WireFault}
 use Rattle.msg_codec.specs.declared.wire.WireFault.TheVariants.{Short, TooLong}
 use Rattle.msg_codec.specs.Bytes.{AreBytes}
+use Rattle.msg_codec.specs.Limits.{max_body}
 use Rattle.msg_codec.specs.Reading.{◌>>=◌, number_reading, told, body_reading, pair_reading, if_whole, whole}
 use Rattle.msg_codec.specs.Spelling.{spelled_number, spelled_body}
 
@@ -66,32 +67,32 @@ number_spelled bytes n len fit e =
 
 -- ---- bodies
 
-pub told_is : (body rest : List ℕ) → length body ≤ 1048576 → told (spelled_body body ++ rest) ≡ length body
+pub told_is : (body rest : List ℕ) → length body ≤ max_body → told (spelled_body body ++ rest) ≡ length body
 unfolding told
 told_is body rest short = from_le_bytes-to_le_bytes_4 (length body) (omega (arith, short))
 
-pub body_again : (body rest : List ℕ) → length body ≤ 1048576 → body_reading (spelled_body body ++ rest) ≡ Ok (body, length (spelled_body body))
+pub body_again : (body rest : List ℕ) → length body ≤ max_body → body_reading (spelled_body body ++ rest) ≡ Ok (body, length (spelled_body body))
 unfolding body_reading
 body_again body rest short =
     let is = told_is body rest short in
     let four : ltb (length (spelled_body body ++ rest)) 4 ≡ false = le-ltb _ _ (omega (arith, length-append (spelled_body body) rest)) in
-    let most : ltb 1048576 (length body) ≡ false = le-ltb _ _ short in
+    let most : ltb max_body (length body) ≡ false = le-ltb _ _ short in
     let whole : ltb (length (body ++ rest)) (length body) ≡ false = le-ltb _ _ (omega (arith, length-append body rest)) in
     let len : 4 + length body ≡ length (spelled_body body) = omega arith in
     rw (four, is, most, whole, take_at body rest (length body) refl, len) refl
 
 pub body_spelled : (bytes body : List ℕ) (len : ℕ) → AreBytes bytes → body_reading bytes ≡ Ok (body, len)
-    → ((length body ≤ 1048576) × AreBytes body) × (take len bytes ≡ spelled_body body) × (len ≤ length bytes)
+    → ((length body ≤ max_body) × AreBytes body) × (take len bytes ≡ spelled_body body) × (len ≤ length bytes)
 unfolding body_reading told
 body_spelled bytes body len fit e =
     let n = told bytes in
     let rest = drop 4 bytes in
     let third : Result (List ℕ × ℕ) WireFault = cond (ltb (length rest) n) (Err Short) (Ok (take n rest, 4 + n)) in
-    let a = guard_ok (ltb (length bytes) 4) Short (cond (ltb 1048576 n) (Err TooLong) third) (body, len) e in
-    let b = guard_ok (ltb 1048576 n) TooLong third (body, len) a.1 in
+    let a = guard_ok (ltb (length bytes) 4) Short (cond (ltb max_body n) (Err TooLong) third) (body, len) e in
+    let b = guard_ok (ltb max_body n) TooLong third (body, len) a.1 in
     let d = guard_ok (ltb (length rest) n) Short (Ok (take n rest, 4 + n)) (body, len) b.1 in
     let four : 4 ≤ length bytes = ltb-false _ _ a.0 in
-    let most : n ≤ 1048576 = ltb-false _ _ b.0 in
+    let most : n ≤ max_body = ltb-false _ _ b.0 in
     let whole : n ≤ length rest = ltb-false _ _ d.0 in
     let same = same_ok _ (take n rest, 4 + n) (body, len) refl d.1 in
     let size : length (take n rest) ≡ n = omega (arith, length-take n rest) in
@@ -99,7 +100,7 @@ body_spelled bytes body len fit e =
     let field : take 4 bytes ≡ to_le_bytes w32 n = sym (le_bytes_4 (take 4 bytes) n (omega (arith, length-take 4 bytes)) front (front_4 bytes)) in
     let fits : AreBytes (take n rest) = All-take (λ b. b < 2 ^ 8) n rest (All-drop (λ b. b < 2 ^ 8) 4 bytes fit) in
     let bytes-are : take (4 + n) bytes ≡ spelled_body (take n rest) = take-add 4 n bytes ∙ rw (field, size) refl in
-    subst (λ (x : List ℕ × ℕ). ((length x.0 ≤ 1048576) × AreBytes x.0) × (take x.1 bytes ≡ spelled_body x.0) × (x.1 ≤ length bytes)) same ((rw size most, fits), bytes-are, omega (arith, length-drop 4 bytes))
+    subst (λ (x : List ℕ × ℕ). ((length x.0 ≤ max_body) × AreBytes x.0) × (take x.1 bytes ≡ spelled_body x.0) × (x.1 ≤ length bytes)) same ((rw size most, fits), bytes-are, omega (arith, length-drop 4 bytes))
 
 -- ---- pairs
 

@@ -3,6 +3,7 @@ pub mod Count
 pub mod Cut
 pub mod Laws
 pub mod Letter
+pub mod Limits
 pub mod Placed
 pub mod Reading
 pub mod Spelling

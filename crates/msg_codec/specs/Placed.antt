@@ -3,6 +3,7 @@ use Rattle.std.specs.Prelude.{◌≡◌, ℕ, ◌+◌, ◌<◌, ◌≤◌, ◌^�
 use Rattle.std.specs.Int.{w32, from_le_bytes}
 use Rattle.msg_codec.specs.declared.letter.Letter.{Letter}
 use Rattle.msg_codec.specs.Bytes.{AreBytes}
+use Rattle.msg_codec.specs.Limits.{max_body}
 use Rattle.msg_codec.specs.Spelling.{spelled_letter, spelling}
 
 -- each field fits its type
@@ -10,7 +11,7 @@ pub record Fits (l : Letter) : Type 0 where
   pub to_fits : l.to < 2 ^ 32
   pub from_fits : l.from < 2 ^ 32
   pub tag_fits : l.tag < 2 ^ 8
-  pub body_short : length l.body ≤ 1048576
+  pub body_short : length l.body ≤ max_body
   pub bytes_fit : AreBytes l.body
 
 -- the length of the body of the letter that the bytes begin with, by its length field
@@ -49,5 +50,5 @@ pub record IsBatch (bytes places : List ℕ) : Type 0 where
 -- a whole letter begins at the place
 pub record IsHeld (bytes : List ℕ) (place : ℕ) : Type 0 where
   pub inside : place ≤ length bytes
-  pub short : told_length (drop place bytes) ≤ 1048576
+  pub short : told_length (drop place bytes) ≤ max_body
   pub whole : 13 + told_length (drop place bytes) ≤ length (drop place bytes)

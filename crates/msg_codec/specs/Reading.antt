@@ -3,6 +3,7 @@ use Rattle.std.specs.Prelude.{◌≡◌, ℕ, ◌+◌, List, length, take, drop,
 use Rattle.std.specs.Int.{w32, w64, from_le_bytes}
 use Rattle.msg_codec.specs.declared.wire.WireFault.{WireFault}
 use Rattle.msg_codec.specs.declared.wire.WireFault.TheVariants.{Short, TooLong, NoMemory}
+use Rattle.msg_codec.specs.Limits.{max_body}
 
 infixl 10 ◌>>=◌
 abbrev pub ◌>>=◌ : {A B : Type 0} → Result A WireFault → (A → Result B WireFault) → Result B WireFault
@@ -20,7 +21,7 @@ told bytes = from_le_bytes w32 bytes
 unfoldable pub body_reading : List ℕ → Result (List ℕ × ℕ) WireFault
 body_reading bytes =
     if nat_lt (length bytes) 4 then Err Short
-    else if nat_lt 1048576 (told bytes) then Err TooLong
+    else if nat_lt max_body (told bytes) then Err TooLong
     else if nat_lt (length (drop 4 bytes)) (told bytes) then Err Short
     else Ok (take (told bytes) (drop 4 bytes), 4 + told bytes)
 

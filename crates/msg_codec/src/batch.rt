@@ -2,6 +2,7 @@
 ghost use Rattle.std.specs.Prelude.{All, ◌≡◌, ◌<◌, ◌≤◌, ◌+◌, [], ◌∷◌, ◌++◌, length, drop, slice_get, Some, IfOk, OnOk, OnErr};
 ghost use Rattle.std.specs.Int.{to_le_bytes};
 ghost use Rattle.msg_codec.specs.Letter.{letter_of};
+ghost use Rattle.msg_codec.specs.Limits.{max_body};
 ghost use Rattle.msg_codec.specs.Placed.{told_length, first_letter, Fits, IsHeld};
 ghost use Rattle.msg_codec.specs.Spelling.{header, spelled_letter, spelling};
 
@@ -59,7 +60,7 @@ fn append(bytes: &mut Vec<u8>, letter: &LetterRef<'_>) -> Result<(), AllocError>
 
 /// The letter that the bytes begin with.
 fn read_first(bytes: &[u8]) -> LetterRef<'_>
-    requires short { told_length bytes.now ≤ 1048576 }
+    requires short { told_length bytes.now ≤ max_body }
     requires whole { 13 + told_length bytes.now ≤ length bytes.now }
     ensures { letter_of result ≡ first_letter bytes.now }
 {

@@ -2,6 +2,7 @@
 ghost use Rattle.std.specs.Prelude.{◌≡◌, ◌≤◌, List, ℕ, length, vec_len, IfOk};
 ghost use Rattle.std.specs.Int.{w32, to_le_bytes};
 ghost use Rattle.msg_codec.specs.Bytes.{AreBytes};
+ghost use Rattle.msg_codec.specs.Limits.{max_body};
 
 use std::alloc::{AllocError, Global};
 use std::marker::Model;
@@ -20,13 +21,13 @@ impl Model for Body {
 
     ghost view = { λ body. body.bytes.items };
 
-    ghost invariant = { λ body. length body.bytes.items ≤ 1048576 };
+    ghost invariant = { λ body. length body.bytes.items ≤ max_body };
 }
 
 impl Body {
     /// A copy of the bytes.
     pub fn of(alloc: Global, bytes: &[u8]) -> Result<Body, AllocError>
-        requires { length bytes.now ≤ MAX_BODY }
+        requires { length bytes.now ≤ max_body }
         ensures { IfOk result (λ body. body ≡ bytes.now) }
     {
         Ok(Body {
@@ -36,7 +37,7 @@ impl Body {
 
     /// The bytes themselves, without a copy.
     pub fn from_vec(bytes: Vec<u8>) -> Body
-        requires { vec_len bytes ≤ MAX_BODY }
+        requires { vec_len bytes ≤ max_body }
         ensures { result ≡ bytes.items }
     {
         Body { bytes }
@@ -44,14 +45,14 @@ impl Body {
 
     pub fn as_slice(&self) -> &[u8]
         ensures value { result.now ≡ self.now }
-        ensures bound { length self.now ≤ MAX_BODY }
+        ensures bound { length self.now ≤ max_body }
     {
         self.bytes.as_slice()
     }
 
     pub fn into_vec(self) -> Vec<u8>
         ensures value { result.items ≡ self }
-        ensures bound { vec_len result ≤ MAX_BODY }
+        ensures bound { vec_len result ≤ max_body }
     {
         self.bytes
     }
@@ -90,9 +91,9 @@ impl Body2 {
     }
 }
 
-/// The encoded length of a body, which stands before its bytes.
+/// The encoded length of a body, which comes before its bytes.
 pub fn length_field(body: &[u8]) -> [u8; 4]
-    requires { length body.now ≤ MAX_BODY }
+    requires { length body.now ≤ max_body }
     ensures value { result ≡ to_le_bytes w32 (length body.now) }
     ensures bytes { AreBytes body.now }
 {

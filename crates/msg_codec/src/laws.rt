@@ -1,10 +1,17 @@
 //! The laws of the encodings. Each is the contract of a function that does nothing.
 ghost use Rattle.std.specs.Prelude.{◌≡◌, ℕ, List, ◌++◌, length, All, Ok};
 ghost use Rattle.msg_codec.specs.declared.letter.Letter.{Letter};
+ghost use Rattle.msg_codec.specs.Limits.{max_body};
 ghost use Rattle.msg_codec.specs.Placed.{Fits};
 ghost use Rattle.msg_codec.specs.Spelling.{spelling};
 
-use crate::Wire;
+use crate::{MAX_BODY, Wire};
+
+/// The number that bounds a letter's body, and the constant that has it.
+pub fn the_limit_is_this_number()
+    ensures body { max_body ≡ 1048576 }
+    ensures constant { MAX_BODY ≡ max_body }
+{}
 
 /// No encoding of a value is a prefix of the encoding of another.
 pub fn no_spelling_begins_another<W: Wire>()

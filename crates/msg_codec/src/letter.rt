@@ -1,5 +1,6 @@
 //! One message from a rank to a rank.
 ghost use Rattle.std.specs.Prelude.{◌≡◌, ◌≤◌, length};
+ghost use Rattle.msg_codec.specs.Limits.{max_body};
 
 use crate::Body;
 
@@ -23,7 +24,7 @@ pub struct LetterRef<'a> {
     pub from: u32,
     pub tag: u8,
     pub body: &'a [u8],
-    pub ghost short: { length body.now ≤ 1048576 },
+    pub ghost short: { length body.now ≤ max_body },
 }
 
 impl Letter {

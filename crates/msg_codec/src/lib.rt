@@ -15,7 +15,8 @@ pub use batch::Batch;
 pub use body::{Body, Body2, MAX_BODY, length_field};
 pub use counter::{AtLimit, Counter};
 pub use laws::{
-    no_spelling_begins_another, no_two_lists_are_spelled_alike, what_was_put_is_read_again,
+    no_spelling_begins_another, no_two_lists_are_spelled_alike, the_limit_is_this_number,
+    what_was_put_is_read_again,
 };
 pub use letter::{Letter, LetterRef};
 pub use letters::Letters;

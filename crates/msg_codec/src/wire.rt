@@ -4,6 +4,7 @@ ghost use Rattle.std.specs.Int.{to_le_bytes};
 ghost use Rattle.msg_codec.specs.declared.wire.WireFault.{WireFault};
 ghost use Rattle.msg_codec.specs.declared.wire.WireFault.TheVariants.{Short, TooLong, NoMemory};
 ghost use Rattle.msg_codec.specs.Bytes.{AreBytes};
+ghost use Rattle.msg_codec.specs.Limits.{max_body};
 ghost use Rattle.msg_codec.specs.Reading.{Gives, IsReading, number_reading, body_reading, pair_reading};
 ghost use Rattle.msg_codec.specs.Spelling.{spelled_number, spelled_body};
 
@@ -96,7 +97,7 @@ pub fn body_at(from: &[u8]) -> Result<(&[u8], usize), WireFault>
     ensures exact { IsReading (λ found. (found.0.now, found.1)) result (body_reading from.now) }
     ensures front { IfOk result (λ found. take found.1 from.now ≡ spelled_body found.0.now) }
     ensures within { IfOk result (λ found. found.1 ≤ length from.now) }
-    ensures short { IfOk result (λ found. length found.0.now ≤ 1048576) }
+    ensures short { IfOk result (λ found. length found.0.now ≤ max_body) }
     ensures bytes { IfOk result (λ found. AreBytes found.0.now) }
 {
     if from.len() < 4 {
@@ -116,7 +117,7 @@ pub fn body_at(from: &[u8]) -> Result<(&[u8], usize), WireFault>
 
 /// Appends the encoding of a body, or nothing if out of memory.
 fn put_body(body: &[u8], into: &mut Vec<u8>) -> Result<(), AllocError>
-    requires { length body.now ≤ 1048576 }
+    requires { length body.now ≤ max_body }
     ensures appended { OnOk result (into.new.items ≡ into.old.items ++ spelled_body body.now) }
     ensures unchanged { OnErr result (into.new.items ≡ into.old.items) }
     ensures bytes { AreBytes body.now }
@@ -163,12 +164,13 @@ impl Wire for u64 {
 impl Wire for Body {
     ghost use Rattle.std.specs.Prelude.{◌≤◌, length};
     ghost use Rattle.msg_codec.specs.Bytes.{AreBytes};
+    ghost use Rattle.msg_codec.specs.Limits.{max_body};
     ghost use Rattle.msg_codec.specs.Reading.{body_reading};
     ghost use Rattle.msg_codec.specs.Spelling.{spelled_body};
     ghost use Rattle.msg_codec.specs.Laws.{body_again, body_spelled};
     ghost use Rattle.msg_codec.specs.Cut.{body_cut, body_long, body_wants};
 
-    ghost in_range = { λ body. (length body ≤ 1048576) × AreBytes body };
+    ghost in_range = { λ body. (length body ≤ max_body) × AreBytes body };
 
     ghost spelled = { spelled_body };
 

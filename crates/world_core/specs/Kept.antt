@@ -61,8 +61,8 @@ pub record Counted (rank : ℕ) (old new : List ℕ) : Type 0 where
   pub never_falls : slice_index_or old rank 0 ≤ slice_index_or new rank 0
   pub others : (other : ℕ) → other ≢ rank → slice_index_or new other 0 ≡ slice_index_or old other 0
 
--- Links, of which those of one sender stand together, have the batches and the counts that the logs of a sound world
--- say.
+-- The links have the batches and the counts that the logs of a sound world say. Those of one sender are next to each
+-- other.
 pub record AreLinks (world : Logs) (n : ℕ) (batches : List (List (List Letter))) (carried : List ℕ) : Type 0 where
   pub sound : IsWorld world
   pub ranks : world.layout.ranks ≡ n

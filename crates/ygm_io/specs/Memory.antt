@@ -10,7 +10,7 @@ use Rattle.ygm_io.specs.Writes.{PieceWritten}
 use Rattle.ygm_io.specs.declared.mem_files.MemFiles.{MemFiles}
 use Rattle.ygm_io.specs.declared.mem_source.MemSource.{MemSource}
 
--- As many bytes as remained and fit were moved to the front of a buffer, which was `space` before and is `filled` now.
+-- As many bytes as remained and fit were moved to the start of a buffer, which was `space` before and is `filled` now.
 pub record Moved (count : ℕ) (space filled left left_now : List ℕ) : Type 0 where
   pub as_many_as_fit : count ≡ min (length space) (length left)
   pub moved : filled ≡ take count left ++ drop count space

@@ -37,7 +37,7 @@ pub trait Files {
     /// How often an open has failed, a count that never falls.
     ghost faults: { Self → ℕ };
 
-    /// Opens the source that the name stands for.
+    /// Opens the source of that name.
     fn open_named(&mut self, name: &str) -> Result<Self::Src, OpenFailed>
         ensures opened { IfOk result (λ src.
             FileOpened (Self.Src.left src) (Self.Src.faults src) (content self.old name.now) (faults self.old) (faults self.new)) }

@@ -13,7 +13,7 @@ pub trait Sink {
     /// How often it has failed, a count that never falls.
     ghost faults: { Self → ℕ };
 
-    /// Writes bytes from the front of `bytes`, and returns how many: at least one of a piece that
+    /// Writes bytes from the start of `bytes`, and returns how many: at least one of a piece that
     /// isn't empty.
     fn write(&mut self, bytes: &[u8]) -> Result<usize, Failed>
         ensures took { IfOk result (λ count.

@@ -18,7 +18,7 @@ pub trait Source {
     /// How often it has failed, a count that never falls.
     ghost faults: { Self → ℕ };
 
-    /// Reads the next bytes into the front of `into`, and returns how many. For a buffer that isn't
+    /// Reads the next bytes into the start of `into`, and returns how many. For a buffer that isn't
     /// empty, 0 is the end of the input.
     fn read(&mut self, into: &mut [u8]) -> Result<usize, Failed>
         ensures took { IfOk result (λ count.

@@ -1,4 +1,4 @@
-//! Bytes that are read from the front.
+//! Bytes that are read in order.
 ghost use Rattle.std.specs.Prelude.{◌≡◌, IfOk};
 ghost use Rattle.ygm_io.specs.Memory.{Moved};
 
@@ -38,7 +38,7 @@ impl Unread {
         &self.bytes[self.read..]
     }
 
-    /// Moves as many bytes as fit to the front of `into`, and returns how many.
+    /// Moves as many bytes as fit to the start of `into`, and returns how many.
     pub fn move_into(&mut self, into: &mut [u8]) -> usize
         ensures { Moved result into.old into.new self.old self.new }
     {

@@ -1,9 +1,3 @@
-pub mod Places
-pub mod Hops
-pub mod Ways
-pub mod Lists
-pub mod Standing
-pub mod PathLaws
-pub mod Only
-pub mod Paths
-pub mod Lengths
+pub mod Hop
+pub mod Layouts
+pub mod Path

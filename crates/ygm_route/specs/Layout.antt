@@ -1,5 +1,9 @@
--- Ranks stand in rows: each node has the same number of cores, and each core runs one rank.
+-- Ranks on nodes: each node has the same number of cores, and each core runs one rank.
 use Rattle.std.specs.Prelude.{◌≡◌, ℕ, ◌+◌, ◌*◌, ◌/◌, ◌%◌, ◌<◌, ◌≤◌}
+
+-- the most ranks that a layout may have
+abbrev pub max_ranks : ℕ
+max_ranks = 32
 
 -- how many ranks there are, and how many of them each node has
 pub record Shape : Type 0 where
@@ -9,11 +13,11 @@ pub record Shape : Type 0 where
 -- there are ranks, not too many of them, and they fill their nodes
 pub record IsLayout (layout : Shape) : Type 0 where
   pub some_rank : 1 ≤ layout.ranks
-  pub few_ranks : layout.ranks ≤ 32
+  pub few_ranks : layout.ranks ≤ max_ranks
   pub some_core : 1 ≤ layout.cores
   pub full_nodes : layout.ranks % layout.cores ≡ 0
 
--- the node that a rank stands on
+-- the node that a rank runs on
 abbrev pub node : Shape → ℕ → ℕ
 node layout rank = rank / layout.cores
 

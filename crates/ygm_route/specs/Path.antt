@@ -24,7 +24,7 @@ crosses ranks a b = list_any (λ link. (link.0 == a) && (link.1 == b)) (links ra
 abbrev pub passes : List ℕ → ℕ → Bool
 passes ranks r = list_any (λ x. x == r) ranks
 
--- A path begins with its sender and ends with its destination, which doesn't stand between them, and
+-- A path begins with its sender and ends with its destination, which isn't between them, and
 -- each link leads to the next hop towards the destination. A path to oneself is the link to oneself.
 pub record IsPath (layout : Shape) (scheme : Scheme) (from to : ℕ) (ranks : List ℕ) : Type 0 where
   pub between : List ℕ

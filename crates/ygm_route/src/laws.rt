@@ -1,15 +1,23 @@
-//! What holds of all paths, in every layout and scheme. Each law is the contract of a function that does
-//! nothing: a caller that calls it may rely on it.
+//! What holds of all layouts and paths. Each law is the contract of a function that does nothing: a caller
+//! that calls it may rely on it.
 ghost use Rattle.std.specs.Prelude.{◌≡◌, ◌≢◌, ◌+◌, ◌<◌, ◌≤◌, ℕ, List, [], ◌∷◌, ◌++◌, length, nat_eq, IsTrue};
 ghost use Rattle.std.specs.List.{IsDistinct};
 ghost use Rattle.list_facts.specs.Prefix.{IsPrefix, IsSuffix};
 ghost use Rattle.ygm_route.specs.declared.scheme.Scheme.{Scheme};
 ghost use Rattle.ygm_route.specs.Hop.{hop};
-ghost use Rattle.ygm_route.specs.Layout.{AreRanks, Shape, node};
+ghost use Rattle.ygm_route.specs.Layout.{AreRanks, Shape, max_ranks, node};
 ghost use Rattle.ygm_route.specs.Path.{crosses, IsPath, links, most_links, passes, path};
 
+use crate::MAX_RANKS;
+
+/// The number that bounds a layout, and the constant that has it.
+pub fn the_limit_is_this_number()
+    ensures ranks { max_ranks ≡ 32 }
+    ensures constant { MAX_RANKS ≡ max_ranks }
+{}
+
 /// Between two ranks there is one path, and no other: the next hops from the sender come to the destination.
-#[tactic(auto, using(crate::proofs::Only::path_is_path))]
+#[tactic(auto, using(crate::proofs::Path::OnlyOne::path_is_path))]
 pub fn one_path_leads_to_each_rank()
     ensures there_is_one { (layout : Shape) (scheme : Scheme) (from to : ℕ) → AreRanks layout from to →
         IsPath layout scheme from to (path layout scheme from to) }
@@ -18,7 +26,7 @@ pub fn one_path_leads_to_each_rank()
 {}
 
 /// A path repeats no rank, but for a rank's path to itself, which is the link from the rank to itself.
-#[tactic(auto, using(crate::proofs::PathLaws::no_repeats))]
+#[tactic(auto, using(crate::proofs::Path::NoRepeats::no_repeats))]
 pub fn no_rank_is_repeated()
     ensures others { (layout : Shape) (scheme : Scheme) (from to : ℕ) → AreRanks layout from to → from ≢ to →
         IsDistinct nat_eq (path layout scheme from to) }
@@ -27,7 +35,7 @@ pub fn no_rank_is_repeated()
 {}
 
 /// A path has few links, and one rank more. Its ranks are ranks of the layout.
-#[tactic(auto, using(crate::proofs::Lengths::short_paths, crate::proofs::PathLaws::passes_within))]
+#[tactic(auto, using(crate::proofs::Path::Lengths::short_paths, crate::proofs::Path::Within::passes_within))]
 pub fn paths_are_short()
     ensures few_links { (layout : Shape) (scheme : Scheme) (from to : ℕ) → AreRanks layout from to →
         length (links (path layout scheme from to)) ≤ most_links scheme }
@@ -39,7 +47,7 @@ pub fn paths_are_short()
 
 /// A path follows the next hops towards its destination, and nothing else: each of its links leads to the
 /// next hop, and from each rank before the destination it crosses the link to the next hop.
-#[tactic(auto, using(crate::proofs::PathLaws::along_hops))]
+#[tactic(auto, using(crate::proofs::Path::FollowsHops::along_hops))]
 pub fn paths_follow_the_next_hops()
     ensures each_link { (layout : Shape) (scheme : Scheme) (from to a b : ℕ) → AreRanks layout from to →
         IsTrue (crosses (path layout scheme from to) a b) → b ≡ hop layout scheme a to }
@@ -52,7 +60,7 @@ pub fn paths_follow_the_next_hops()
 
 /// The links of a path join its ranks: both ends of a link are on the path, and each rank but the sender
 /// is the end of a link.
-#[tactic(auto, using(crate::proofs::PathLaws::joined))]
+#[tactic(auto, using(crate::proofs::Path::JoinedByLinks::joined))]
 pub fn links_join_the_ranks_of_a_path()
     ensures start { (layout : Shape) (scheme : Scheme) (from to a b : ℕ) → AreRanks layout from to →
         IsTrue (crosses (path layout scheme from to) a b) → IsTrue (passes (path layout scheme from to) a) }
@@ -65,7 +73,7 @@ pub fn links_join_the_ranks_of_a_path()
 
 /// A path goes on from the next hop as if that were the sender: where a message is going doesn't depend on
 /// where it came from. So from any rank on a path the rest of it is the path from that rank.
-#[tactic(auto, using(crate::proofs::PathLaws::going_on))]
+#[tactic(auto, using(crate::proofs::Path::GoesOn::going_on))]
 pub fn paths_go_on_as_from_the_next_hop()
     ensures arrives { (layout : Shape) (scheme : Scheme) (from to : ℕ) → AreRanks layout from to →
         hop layout scheme from to ≡ to → path layout scheme from to ≡ from ∷ to ∷ [] }
@@ -82,7 +90,7 @@ pub fn paths_go_on_as_from_the_next_hop()
 /// The paths of one sender make a tree with the sender as its root. Each rank on them has one rank before
 /// it, its parent, the same on all paths of this sender. No link leads back to the root, but for the root's
 /// path to itself.
-#[tactic(auto, using(crate::proofs::PathLaws::tree))]
+#[tactic(auto, using(crate::proofs::Path::Tree::tree))]
 pub fn paths_of_a_sender_make_a_tree()
     ensures some_parent { (layout : Shape) (scheme : Scheme) (root to : ℕ) → AreRanks layout root to →
         (a : ℕ) × IsTrue (crosses (path layout scheme root to) a to) }
@@ -95,8 +103,8 @@ pub fn paths_of_a_sender_make_a_tree()
 {}
 
 /// The tree of a sender grows link by link: the path to a rank is the path to its parent with the link
-/// from there, and it is the beginning of each path over that rank.
-#[tactic(auto, using(crate::proofs::PathLaws::growth))]
+/// from there, and it is a prefix of each path over that rank.
+#[tactic(auto, using(crate::proofs::Path::Tree::growth))]
 pub fn trees_grow_link_by_link()
     ensures parent { (layout : Shape) (scheme : Scheme) (root to a b : ℕ) → AreRanks layout root to →
         IsTrue (crosses (path layout scheme root to) a b) → a ≢ root →
@@ -109,7 +117,7 @@ pub fn trees_grow_link_by_link()
 {}
 
 /// A rank of one's own node is one link away.
-#[tactic(auto, using(crate::proofs::PathLaws::path_within_node))]
+#[tactic(auto, using(crate::proofs::Path::Computed::path_within_node))]
 pub fn own_node_is_one_link_away()
     ensures { (layout : Shape) (scheme : Scheme) (from to : ℕ) → AreRanks layout from to →
         node layout from ≡ node layout to → path layout scheme from to ≡ from ∷ to ∷ [] }
@@ -117,7 +125,7 @@ pub fn own_node_is_one_link_away()
 
 /// A hop never leads back: on a path to another rank, the rank after a rank isn't one of those before it,
 /// and isn't that rank itself.
-#[tactic(auto, using(crate::proofs::Only::hops_never_lead_back))]
+#[tactic(auto, using(crate::proofs::Path::NoRepeats::hops_never_lead_back))]
 pub fn hops_never_lead_back()
     ensures { (layout : Shape) (scheme : Scheme) (from to : ℕ) (before after : List ℕ) (a b : ℕ) →
         AreRanks layout from to → from ≢ to → path layout scheme from to ≡ before ++ a ∷ b ∷ after →

@@ -1,6 +1,6 @@
-//! Which ranks there are, and on which nodes they stand.
+//! Which ranks there are, and on which nodes they run.
 ghost use Rattle.std.specs.Prelude.{◌≡◌, ◌≢◌, ◌<◌, ◌≤◌, ◌%◌, ◌/◌, ◌↔◌, IsOk, IfOk, IsErrOf};
-ghost use Rattle.ygm_route.specs.Layout.{IsLayout, core, node, rank_at};
+ghost use Rattle.ygm_route.specs.Layout.{IsLayout, core, max_ranks, node, rank_at};
 
 use crate::MAX_RANKS;
 use std::marker::Model;
@@ -23,8 +23,8 @@ pub enum LayoutFault {
     Uneven,
 }
 
-/// A number of ranks, and how they stand on nodes: the same number of cores on each node, and a rank on
-/// each core. Ranks are numbered from 0, node by node.
+/// A number of ranks, and the nodes that they run on: each node has the same number of cores, and each core
+/// runs one rank. Ranks are numbered from 0, node by node.
 #[derive(Clone, Copy, Debug, PartialEq, Eq)]
 pub struct Layout {
     ranks: u32,
@@ -46,16 +46,16 @@ impl Model for Layout {
 impl Layout {
     /// Lays out this many ranks, with this many cores on each node.
     ///
-    /// The faults are tried in their order, and the first is answered.
+    /// The faults are tried in their order, and the first that holds is returned.
     pub fn new(ranks: u32, cores: u32) -> Result<Layout, LayoutFault>
         ensures ok { IfOk result (λ layout. layout ≡ record { ranks = ranks; cores = cores }) }
         ensures accepted { IsOk result ↔ IsLayout (record { ranks = ranks; cores = cores }) }
         ensures no_ranks { IsErrOf result LayoutFault.NoRanks ↔ (ranks ≡ 0) }
-        ensures too_many_ranks { IsErrOf result LayoutFault.TooManyRanks ↔ (32 < ranks) }
+        ensures too_many_ranks { IsErrOf result LayoutFault.TooManyRanks ↔ (max_ranks < ranks) }
         ensures no_cores { IsErrOf result LayoutFault.NoCores ↔
-            ((1 ≤ ranks) × (ranks ≤ 32) × (cores ≡ 0)) }
+            ((1 ≤ ranks) × (ranks ≤ max_ranks) × (cores ≡ 0)) }
         ensures uneven { IsErrOf result LayoutFault.Uneven ↔
-            ((1 ≤ ranks) × (ranks ≤ 32) × (1 ≤ cores) × (ranks % cores ≢ 0)) }
+            ((1 ≤ ranks) × (ranks ≤ max_ranks) × (1 ≤ cores) × (ranks % cores ≢ 0)) }
     {
         if ranks == 0 {
             return Err(LayoutFault::NoRanks);
@@ -88,7 +88,7 @@ impl Layout {
         self.cores
     }
 
-    /// The node that the rank `r` stands on.
+    /// The node that the rank `r` runs on.
     pub fn node_of(&self, r: u32) -> u32
         requires { r < self.now.ranks }
         ensures value { result ≡ node self.now r }

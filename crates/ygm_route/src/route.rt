@@ -1,4 +1,4 @@
-//! The next hop of a message, and how many hops it has before it.
+//! The next hop of a message, and how many hops it takes.
 ghost use Rattle.std.specs.Prelude.{◌≡◌, ◌<◌, ◌≤◌, length};
 ghost use Rattle.ygm_route.specs.Hop.{gateway, hop};
 ghost use Rattle.ygm_route.specs.Path.{links, most_links, path};
@@ -33,8 +33,8 @@ pub fn next_hop(layout: &Layout, scheme: Scheme, here: u32, to: u32) -> u32
 }
 
 /// The number of links that a message from `here` to `to` crosses. It is 1 for a message to oneself, and
-/// else at most 1, 2 and 3 in the three schemes.
-#[tactic(auto, using(crate::proofs::Lengths::link_counts))]
+/// otherwise at most 1, 2 and 3 in the three schemes.
+#[tactic(auto, using(crate::proofs::Path::Lengths::link_counts))]
 pub fn hops_to(layout: &Layout, scheme: Scheme, here: u32, to: u32) -> u32
     requires here_within { here < layout.now.ranks }
     requires to_within { to < layout.now.ranks }

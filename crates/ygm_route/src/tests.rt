@@ -34,7 +34,7 @@ fn worked_paths_over_two_nodes(rt: HostRuntime) -> Result<(), Fail> {
     paths_by_definition();
     let layout = Layout::new(8, 4)?;
 
-    // each rank of a path with its next hop and the links that are left
+    // each rank of a path with its next hop and the links that remain
     let hops = [
         (Scheme::Nr, 1, 6, 5, 2),
         (Scheme::Nr, 5, 6, 6, 1),

@@ -85,7 +85,7 @@ pub record IsFirstUnopened {S : Type 0} (left : S → ExposedBytes) (faults : S 
   pub unread : map left sources ≡ map content (take file names)
   pub no_fault : (rank : ℕ) (source : S) → slice_get sources rank ≡ Some source → faults source ≡ 0
 
--- Why a run ended so. A refusal stands only where none before it does: the words are refused, or were accepted; a file
+-- Why a run ended so. A refusal is reported only where none before it applies: the words are refused, or were accepted; a file
 -- couldn't be opened, or each was; a rank's count is full; the input of the lowest rank with a fault failed, or all were
 -- read to their ends; the text couldn't be written, or was. `order` is what the words ask for, and `content` what the
 -- files contain. A source shows what remains in it (`left`) and its count of faults.

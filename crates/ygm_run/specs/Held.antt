@@ -64,7 +64,7 @@ pub record IsTooLong (bytes held : List ℕ) : Type 0 where
   pub err : held ≡ bytes
   pub too_long : (rest : List ℕ) → StartsTooLong (held ++ rest)
 
--- a read gave this many bytes, at the front of the buffer
+-- a read gave this many bytes, at the start of the buffer
 pub record GavePiece {S : Type 0} (left : S → ExposedBytes) (faults : S → ℕ) (count : ℕ) (buffer : List ℕ) (source_old source_new : S) : Type 0 where
   pub within : count ≤ READING_SPACE
   pub taken : TakenFrom (take count buffer) (left source_old) (left source_new)

@@ -39,7 +39,7 @@ pub record RawLineTaken (text : List ℕ) (before now : ExposedBytes) : Type 0 w
   pub partial : LacksLf raw
   pub cut : CutOff raw before now
 
--- at most one piece was taken from the front of what remained
+-- at most one piece was taken, a prefix of what remained
 abbrev pub PieceTaken : ExposedBytes → ExposedBytes → Type 0
 PieceTaken before now = (piece : List ℕ) × TakenFrom piece before now × (length piece ≤ max_piece)
 
@@ -173,6 +173,6 @@ pub record TookTurn {S : Type 0} (left : S → ExposedBytes) (faults : S → ℕ
   pub faults_stand : UnlessReadFault result (faults source_new ≡ faults source_old)
   pub never_falls : faults source_old ≤ faults source_new
   pub done : new.done ≡ is_last result
-  -- at most a piece of what remained was taken, from its front
+  -- at most one piece was taken, a prefix of what remained
   pub rest : PieceTaken (left source_old) (left source_new)
   pub tells : is_some (left source_new) ≡ is_some (left source_old)

@@ -52,8 +52,8 @@ pub struct Order<'a> {
 /// Reads words. The names are borrowed from the words, so this takes no memory.
 ///
 /// The words after the job are options up to the word `--`, which is dropped, or to a word that
-/// doesn't begin with `--`. The words from there on are files, whatever they begin with. The kinds of
-/// refusal stand in their order: the first that applies is returned.
+/// doesn't begin with `--`. The words from there on are files, whatever they begin with. The first
+/// kind of refusal that applies is returned.
 pub fn read_words(words: &[String]) -> Result<Order<'_>, UsageKind>
     ensures exact { MatchResult result
         (λ order. order_of (texts_of words.now) ≡ Ok (texts_of order.names.now))

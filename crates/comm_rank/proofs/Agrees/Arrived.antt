@@ -11,8 +11,8 @@ use Rattle.ygm_route.specs.declared.scheme.Scheme.TheVariants.{Direct}
 use Rattle.ygm_route.specs.Layout.{Shape}
 use Rattle.ygm_route.specs.Hop.{hop}
 use Rattle.ygm_route.specs.Path.{crosses, path, stops}
-use Rattle.ygm_route.proofs.Hops.{hop-direct}
-use Rattle.ygm_route.proofs.Lists.{link_of_two}
+use Rattle.ygm_route.proofs.Hop.Cases.{hop-direct}
+use Rattle.ygm_route.proofs.Path.FirstOrLater.{link_of_two}
 use Rattle.world_core.specs.declared.entry.Entry.{Entry}
 use Rattle.world_core.specs.declared.entry.Entry.TheVariants.{Took}
 use Rattle.world_core.specs.Local.{Local, to_forward, is_rank}

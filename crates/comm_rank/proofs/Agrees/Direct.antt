@@ -9,7 +9,7 @@ use Rattle.ygm_route.specs.declared.scheme.Scheme.TheVariants.{Direct}
 use Rattle.ygm_route.specs.Hop.{hop}
 use Rattle.ygm_route.specs.Layout.{Shape}
 use Rattle.ygm_route.specs.Path.{crosses, links_from, path, stops}
-use Rattle.ygm_route.proofs.Hops.{hop-direct}
+use Rattle.ygm_route.proofs.Hop.Cases.{hop-direct}
 use Rattle.world_core.specs.Local.{Local, is_rank, to_forward}
 use Rattle.world_core.specs.Log.{batches_taken, letters_of, letters_taken}
 use Rattle.world_core.specs.Modest.{IsModest}

@@ -7,7 +7,7 @@ use Rattle.msg_codec.specs.declared.letter.Letter.{Letter}
 use Rattle.ygm_route.specs.declared.scheme.Scheme.{Scheme}
 use Rattle.ygm_route.specs.declared.scheme.Scheme.TheVariants.{Direct}
 use Rattle.ygm_route.specs.Hop.{hop}
-use Rattle.ygm_route.proofs.Hops.{hop-direct}
+use Rattle.ygm_route.proofs.Hop.Cases.{hop-direct}
 use Rattle.world_core.specs.declared.entry.Entry.{Entry}
 use Rattle.world_core.specs.declared.entry.Entry.TheVariants.{Put}
 use Rattle.world_core.specs.Limits.{most_letters}

@@ -8,8 +8,9 @@ use Rattle.ygm_route.specs.declared.scheme.Scheme.{Scheme}
 use Rattle.ygm_route.specs.Layout.{Shape, AreRanks}
 use Rattle.ygm_route.specs.Hop.{hop}
 use Rattle.ygm_route.specs.Path.{passes, crosses, path}
-use Rattle.ygm_route.proofs.PathLaws.{crosses_first_hop, crosses_hop, link_end, link_start}
-use Rattle.ygm_route.proofs.Standing.{standing, is_sender, is_destination, is_between as is_middle, is_first, is_second}
+use Rattle.ygm_route.proofs.Path.FollowsHops.{crosses_first_hop, crosses_hop}
+use Rattle.ygm_route.proofs.Path.JoinedByLinks.{link_end, link_start}
+use Rattle.ygm_route.proofs.Path.Places.{standing, is_sender, is_destination, is_between as is_middle, is_first, is_second}
 use Rattle.world_core.specs.Limits.{most_letters}
 use Rattle.world_core.specs.Log.{letters_put}
 use Rattle.world_core.specs.Modest.{IsWorld}

@@ -4,6 +4,7 @@ use Rattle.list_facts.proofs.Filters.{covered, fewer, none_pass}
 use Rattle.std.specs.List.{AllByRecursion}
 use Rattle.std.proofs.lemmas.Bool.{cases_lt}
 use Rattle.msg_codec.specs.declared.letter.Letter.{Letter}
+use Rattle.ygm_route.specs.Layout.{max_ranks}
 use Rattle.world_core.specs.Limits.{most_arrived, most_letters}
 use Rattle.world_core.specs.Log.{letters_put, letters_taken}
 use Rattle.world_core.specs.Modest.{IsLawful, IsWorld}
@@ -62,7 +63,7 @@ module _ (world : Logs) (base : Base world) where
       all_weaker (IsLawful (local world here)) _ (letters_taken (log_of world here)) (λ l c h. rw (h, c.sender) refl) (lawful here) in
       let a : length (arrived here (log_of world here)) ≤ length (filter (from_below here world.layout.ranks) (letters_taken (log_of world here))) = fewer _ _ _ all in
       let b : length (filter (from_below here world.layout.ranks) (letters_taken (log_of world here))) ≤ world.layout.ranks * most_letters = senders_below here most_letters (letters_taken (log_of world here)) (few_of_pair here) world.layout.ranks in
-      let c : world.layout.ranks ≤ 32 = base.laid_out.few_ranks in
+      let c : world.layout.ranks ≤ max_ranks = base.laid_out.few_ranks in
       omega arith
 
   pub is_world : IsWorld world

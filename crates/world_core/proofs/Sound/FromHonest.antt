@@ -7,8 +7,10 @@ use Rattle.ygm_route.specs.declared.scheme.Scheme.{Scheme}
 use Rattle.ygm_route.specs.Layout.{Shape, AreRanks}
 use Rattle.ygm_route.specs.Path.{crosses, path, passes}
 use Rattle.ygm_route.specs.Hop.{hop}
-use Rattle.ygm_route.proofs.PathLaws.{crosses_next_hops, crosses_hop, crosses_first_hop, one_parent, link_end}
-use Rattle.ygm_route.proofs.Ways.{way, at_once, over_one, over_two}
+use Rattle.ygm_route.proofs.Path.FollowsHops.{crosses_next_hops, crosses_hop, crosses_first_hop}
+use Rattle.ygm_route.proofs.Path.JoinedByLinks.{link_end}
+use Rattle.ygm_route.proofs.Path.Tree.{one_parent}
+use Rattle.ygm_route.proofs.Hop.AtMostThree.{way, at_once, over_one, over_two}
 use Rattle.world_core.specs.Log.{batches_put, batches_taken, letters_of}
 use Rattle.world_core.specs.Pairs.{is_of_pair, of_pair, pair_put, pair_taken}
 use Rattle.list_facts.specs.Prefix.{IsPrefix}

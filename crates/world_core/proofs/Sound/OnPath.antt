@@ -8,9 +8,13 @@ use Rattle.ygm_route.specs.declared.scheme.Scheme.{Scheme}
 use Rattle.ygm_route.specs.Layout.{Shape, IsLayout, AreRanks}
 use Rattle.ygm_route.specs.Path.{most_links, passes, path}
 use Rattle.ygm_route.specs.Hop.{hop}
-use Rattle.ygm_route.proofs.Hops.{hop-near}
-use Rattle.ygm_route.proofs.Lengths.{path_short}
-use Rattle.ygm_route.proofs.PathLaws.{crosses_first_hop, crosses_hop, link_end, link_start, path_goes_on, some_parent, towards}
+use Rattle.ygm_route.proofs.Hop.Cases.{hop-near}
+use Rattle.ygm_route.proofs.Path.Lengths.{path_short}
+use Rattle.ygm_route.proofs.Layouts.AreRanks.{towards}
+use Rattle.ygm_route.proofs.Path.FollowsHops.{crosses_first_hop, crosses_hop}
+use Rattle.ygm_route.proofs.Path.GoesOn.{path_goes_on}
+use Rattle.ygm_route.proofs.Path.JoinedByLinks.{link_end, link_start}
+use Rattle.ygm_route.proofs.Path.Tree.{some_parent}
 use Rattle.world_core.specs.declared.entry.Entry.{Entry}
 use Rattle.world_core.specs.Log.{batches_put, batches_taken, letters_of, letters_put, letters_taken}
 use Rattle.world_core.specs.Local.{local_rank}
@@ -114,7 +118,7 @@ module _ (world : Logs) (base : Base world) where
         | inl k_within ↦ elim (cases_eq (hop layout scheme k d) j) [
           | inr other ↦ other_link s d k j other
           | inl e ↦
-              let more = farther d k j (towards layout scheme s d k ranks k_within) t.not_destination e in
+              let more = farther d k j (towards layout s d k ranks k_within) t.not_destination e in
               let k_off = before_off s d k j ranks (before_third s d k j t e) e off in
               each_put _ (log_of world k) (off_path s d ranks n k k_within k_off (omega (arith, more, far))) j
         ]

@@ -1,16 +1,17 @@
 -- The path is the one list of ranks that its rules allow.
-use Rattle.std.proofs.Common.{◌≡◌, ◌≢◌, ℕ, ◌<◌, Bool, true, false, nat_eq, List, [], ◌∷◌, ◌++◌, ap, sym, ◌∙◌, refl, subst, inl, inr}
+use Rattle.std.proofs.Common.{◌≡◌, ◌≢◌, ℕ, ◌<◌, Bool, true, false, List, [], ◌∷◌, ◌++◌, ap, sym, ◌∙◌, refl, subst, inl, inr}
 use Rattle.std.specs.Bool.{IsTrue}
-use Rattle.std.specs.List.{IsDistinct}
-use Rattle.list_facts.proofs.Distinct.{not_before}
 use Rattle.ygm_route.specs.declared.scheme.Scheme.{Scheme}
 use Rattle.ygm_route.specs.Layout.{Shape, AreRanks}
 use Rattle.ygm_route.specs.Hop.{hop}
 use Rattle.ygm_route.specs.Path.{path, passes, crosses, IsPath}
-use Rattle.ygm_route.proofs.Ways.{at_once, over_one, over_two, way}
-use Rattle.ygm_route.proofs.Paths.{path-near, path-one, path-two}
-use Rattle.ygm_route.proofs.Lists.{passes-cons, passes_first, passes_later, crosses_first, crosses_later}
-use Rattle.ygm_route.proofs.PathLaws.{towards, hop_within, path_arrives, path_goes_on, crosses_next_hops, path_distinct}
+use Rattle.ygm_route.proofs.Hop.AtMostThree.{at_once, over_one, over_two, way}
+use Rattle.ygm_route.proofs.Path.Computed.{path-near, path-one, path-two}
+use Rattle.ygm_route.proofs.Path.FirstOrLater.{passes-cons, passes_first, passes_later, crosses_first, crosses_later}
+use Rattle.ygm_route.proofs.Hop.Within.{hop_within}
+use Rattle.ygm_route.proofs.Layouts.AreRanks.{towards}
+use Rattle.ygm_route.proofs.Path.FollowsHops.{crosses_next_hops}
+use Rattle.ygm_route.proofs.Path.GoesOn.{path_arrives, path_goes_on}
 
 not_in_one : (m d : ℕ) → m ≢ d → ¬ IsTrue (passes (m ∷ []) d)
 not_in_one m d ne h = elim (passes-cons m [] d h) [ inl e ↦ ne e | inr none ↦ (let f : ◌≡◌ {A = Bool} false true = none in cc) ]
@@ -26,7 +27,7 @@ module _ (layout : Shape) (scheme : Scheme) where
       let e : x ≡ hop layout scheme s d = follows s x (crosses_first s x (rest ++ d ∷ []) s x refl refl) in
       let within : x < layout.ranks = subst (λ y. y < layout.ranks) (sym e) (hop_within layout scheme s d ranks) in
       let on : hop layout scheme s d ≢ d = λ f. once (passes_first x rest d (e ∙ f)) in
-      let go : x ∷ rest ++ d ∷ [] ≡ path layout scheme x d = only_between x d (towards layout scheme s d x ranks within) rest (λ h. once (passes_later x rest d h)) (λ a b h. follows a b (crosses_later s x (rest ++ d ∷ []) a b h)) in
+      let go : x ∷ rest ++ d ∷ [] ≡ path layout scheme x d = only_between x d (towards layout s d x ranks within) rest (λ h. once (passes_later x rest d h)) (λ a b h. follows a b (crosses_later s x (rest ++ d ∷ []) a b h)) in
       ap (λ xs. s ∷ xs) go ∙ ap (λ y. s ∷ path layout scheme y d) e ∙ sym (path_goes_on layout scheme s d ranks on)
 
   pub path_is_path : (s d : ℕ) → AreRanks layout s d → IsPath layout scheme s d (path layout scheme s d)
@@ -41,7 +42,3 @@ module _ (layout : Shape) (scheme : Scheme) where
   pub path_is_only_path : (s d : ℕ) (ranks : List ℕ) → AreRanks layout s d → IsPath layout scheme s d ranks → ranks ≡ path layout scheme s d
   path_is_only_path s d ranks within p =
       p.ends ∙ only_between s d within p.between p.arrives_once (subst (λ rs. (a b : ℕ) → IsTrue (crosses rs a b) → b ≡ hop layout scheme a d) p.ends p.follows)
-
-pub hops_never_lead_back : (layout : Shape) (scheme : Scheme) (s d : ℕ) (before after : List ℕ) (a b : ℕ) → AreRanks layout s d → s ≢ d → path layout scheme s d ≡ before ++ a ∷ b ∷ after → ¬ IsTrue (passes (before ++ a ∷ []) b)
-hops_never_lead_back layout scheme s d before after a b ranks apart e =
-    λ on. let none = not_before nat_eq before a b after (subst (λ xs. IsDistinct nat_eq xs) e (path_distinct layout scheme s d ranks apart)) in cc

@@ -1,11 +1,12 @@
--- The path, computed for each way that it can go.
+-- The path, computed for each number of hops.
 use Rattle.std.proofs.Common.{◌≡◌, ◌≢◌, ℕ, ◌≤◌, zero, suc, nat_eq, true, false, cond, [], ◌∷◌, ap, ◌∙◌, arith}
 use Rattle.std.proofs.lemmas.Bool.Decides.{nat_tests}
 use Rattle.ygm_route.specs.declared.scheme.Scheme.{Scheme}
-use Rattle.ygm_route.specs.Layout.{Shape, AreRanks}
+use Rattle.ygm_route.specs.Layout.{Shape, AreRanks, node}
 use Rattle.ygm_route.specs.Hop.{hop}
 use Rattle.ygm_route.specs.Path.{path, stops}
-use Rattle.ygm_route.proofs.Ways.{OverOne, OverTwo}
+use Rattle.ygm_route.proofs.Hop.Cases.{hop-near}
+use Rattle.ygm_route.proofs.Hop.AtMostThree.{OverOne, OverTwo}
 
 module _ (layout : Shape) (scheme : Scheme) where
   stops-arrives : (most here to : ℕ) → hop layout scheme here to ≡ to → stops layout scheme (suc most) here to ≡ to ∷ []
@@ -44,7 +45,7 @@ module _ (layout : Shape) (scheme : Scheme) where
   unfolding path
   path-over_two s m k d h first m_d second k_d third = ap (λ xs. s ∷ xs) (stops-over_two layout.ranks s m k d h first m_d second k_d third)
 
--- the ranks that a path passes, for each way
+-- the ranks that a path passes, for each number of hops
 module _ (layout : Shape) (scheme : Scheme) (s d : ℕ) (ranks : AreRanks layout s d) where
   pub path-near : hop layout scheme s d ≡ d → path layout scheme s d ≡ s ∷ d ∷ []
   path-near e = path-at_once layout scheme s d ranks.laid_out.some_rank e
@@ -69,3 +70,8 @@ module _ (layout : Shape) (scheme : Scheme) (s d : ℕ) (ranks : AreRanks layout
     -- the path from the first rank of the path
     pub path-two_rest : path layout scheme m d ≡ m ∷ k ∷ d ∷ []
     path-two_rest = path-over_one layout scheme m k d (omega (arith, enough)) over.second over.k_d over.third
+
+module _ (layout : Shape) (scheme : Scheme) where
+  -- a path within a node is one link
+  pub path_within_node : (s d : ℕ) → AreRanks layout s d → node layout s ≡ node layout d → path layout scheme s d ≡ s ∷ d ∷ []
+  path_within_node s d ranks same = path-near layout scheme s d ranks (hop-near layout s d scheme same)

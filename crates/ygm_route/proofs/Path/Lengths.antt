@@ -8,10 +8,10 @@ use Rattle.ygm_route.specs.declared.scheme.Scheme.TheVariants.{Direct, Nr, Nlnr}
 use Rattle.ygm_route.specs.Layout.{Shape, IsLayout, AreRanks, node, core, rank_at}
 use Rattle.ygm_route.specs.Hop.{gateway}
 use Rattle.ygm_route.specs.Path.{path, links, most_links}
-use Rattle.ygm_route.proofs.Places.{rank_at-node-core}
-use Rattle.ygm_route.proofs.Hops.{hop-near, hop-direct, hop-nr, hop-nlnr_out}
-use Rattle.ygm_route.proofs.Ways.{at_once, over_one, over_two, way, way_nr, way_out, way_in, way_over}
-use Rattle.ygm_route.proofs.Paths.{path-near, path-one, path-two}
+use Rattle.ygm_route.proofs.Layouts.RankAt.{rank_at-node-core}
+use Rattle.ygm_route.proofs.Hop.Cases.{hop-near, hop-direct, hop-nr, hop-nlnr_out}
+use Rattle.ygm_route.proofs.Hop.AtMostThree.{at_once, over_one, over_two, way, way_nr, way_out, way_in, way_over}
+use Rattle.ygm_route.proofs.Path.Computed.{path-near, path-one, path-two}
 
 -- 1 where two numbers differ
 abbrev pub one_if_other : ℕ → ℕ → ℕ

@@ -1,4 +1,4 @@
--- What a path passes and crosses, rank by rank.
+-- A rank that a path passes, and a link that it crosses, is its first or a later one.
 use Rattle.std.proofs.Common.{◌≡◌, ℕ, Bool, true, false, ◌||◌, ◌&&◌, nat_eq, eq-eqb, List, [], ◌∷◌, ap, ◌∙◌, inl, inr, ◌⊎◌}
 use Rattle.std.proofs.lemmas.Bool.{and_parts, eqb-true, or_cases, or_right}
 use Rattle.ygm_route.specs.Path.{passes, crosses}

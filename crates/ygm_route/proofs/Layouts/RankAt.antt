@@ -1,5 +1,5 @@
--- Nodes, cores and the ranks on them.
-use Rattle.std.proofs.Common.{◌≡◌, ◌≢◌, ℕ, ◌+◌, ◌*◌, ◌/◌, ◌%◌, ◌<◌, ap, sym, ◌∙◌, arith}
+-- The rank on a core of a node: which node and core it runs on, and that it is a rank of the layout.
+use Rattle.std.proofs.Common.{◌≡◌, ◌≢◌, ℕ, ◌+◌, ◌*◌, ◌/◌, ◌%◌, ◌<◌, ap, arith}
 use Rattle.std.proofs.lemmas.Nat.{div-mul-add, mod-mul-add, div-add-mod', mul-add-lt, div_below, mod_below}
 use Rattle.ygm_route.specs.Layout.{Shape, IsLayout, node, core, rank_at}
 
@@ -12,10 +12,6 @@ module _ (layout : Shape) where
 
   pub rank_at-node-core : (r : ℕ) → rank_at layout (node layout r) (core layout r) ≡ r
   rank_at-node-core r = div-add-mod' r layout.cores
-
-  -- a rank is known by its node and its core
-  pub same_rank : (a b : ℕ) → node layout a ≡ node layout b → core layout a ≡ core layout b → a ≡ b
-  same_rank a b n c = sym (rank_at-node-core a) ∙ ap (λ x. x * layout.cores + core layout a) n ∙ ap (λ x. node layout b * layout.cores + x) c ∙ rank_at-node-core b
 
   pub apart_by_node : (a b : ℕ) → node layout a ≢ node layout b → a ≢ b
   apart_by_node a b ne e = ne (ap (λ x. x / layout.cores) e)

@@ -1,4 +1,4 @@
--- The ways that a path can go: at once, over one rank, or over two.
+-- A rank is reached in at most three hops: at once, over one rank, or over two.
 use Rattle.std.proofs.Common.{◌≡◌, ◌≢◌, ℕ, ◌+◌, ◌%◌, ◌<◌, ap, sym, ◌∙◌, refl, inl, inr}
 use Rattle.std.proofs.lemmas.Bool.{cases_eq}
 use Rattle.std.proofs.lemmas.Nat.{mod_below}
@@ -6,8 +6,8 @@ use Rattle.ygm_route.specs.declared.scheme.Scheme.{Scheme}
 use Rattle.ygm_route.specs.declared.scheme.Scheme.TheVariants.{Direct, Nr, Nlnr}
 use Rattle.ygm_route.specs.Layout.{Shape, AreRanks, node, core, rank_at}
 use Rattle.ygm_route.specs.Hop.{hop, gateway}
-use Rattle.ygm_route.proofs.Places.{node-rank_at, core-rank_at, rank_at-node-core, apart_by_node, apart_by_core, core_within, rank_at_within}
-use Rattle.ygm_route.proofs.Hops.{hop-near, hop-direct, hop-nr, hop-nlnr_out, hop-nlnr_in}
+use Rattle.ygm_route.proofs.Layouts.RankAt.{node-rank_at, core-rank_at, rank_at-node-core, apart_by_node, apart_by_core, core_within, rank_at_within}
+use Rattle.ygm_route.proofs.Hop.Cases.{hop-near, hop-direct, hop-nr, hop-nlnr_out, hop-nlnr_in}
 
 -- the path goes over the rank m alone
 pub record OverOne (layout : Shape) (scheme : Scheme) (s d m : ℕ) : Type 0 where

@@ -1,13 +1,13 @@
--- Where a rank or a link stands on a path.
+-- The places of ranks and of links on a path.
 use Rattle.std.proofs.Common.{◌≡◌, ℕ, ap, sym, ◌∙◌, subst, inl, inr}
 use Rattle.std.specs.Bool.{IsTrue}
 use Rattle.ygm_route.specs.declared.scheme.Scheme.{Scheme}
 use Rattle.ygm_route.specs.Layout.{Shape, AreRanks}
 use Rattle.ygm_route.specs.Hop.{hop}
 use Rattle.ygm_route.specs.Path.{path, passes, crosses}
-use Rattle.ygm_route.proofs.Ways.{OverOne, OverTwo, at_once, over_one, over_two, way}
-use Rattle.ygm_route.proofs.Paths.{path-near, path-one, path-two}
-use Rattle.ygm_route.proofs.Lists.{one_of_two, one_of_three, one_of_four, link_of_two, link_of_three, link_of_four}
+use Rattle.ygm_route.proofs.Hop.AtMostThree.{OverOne, OverTwo, at_once, over_one, over_two, way}
+use Rattle.ygm_route.proofs.Path.Computed.{path-near, path-one, path-two}
+use Rattle.ygm_route.proofs.Path.FirstOrLater.{one_of_two, one_of_three, one_of_four, link_of_two, link_of_three, link_of_four}
 
 -- the place of a rank on the path from s to d
 pub data Standing (layout : Shape) (scheme : Scheme) (s d r : ℕ) : Type 0 where

@@ -1,0 +1,3 @@
+pub mod AtMostThree
+pub mod Cases
+pub mod Within

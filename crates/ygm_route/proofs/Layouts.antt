@@ -1,0 +1,2 @@
+pub mod AreRanks
+pub mod RankAt

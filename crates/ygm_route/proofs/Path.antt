@@ -1,0 +1,11 @@
+pub mod Computed
+pub mod FirstOrLater
+pub mod FollowsHops
+pub mod GoesOn
+pub mod JoinedByLinks
+pub mod Lengths
+pub mod NoRepeats
+pub mod OnlyOne
+pub mod Places
+pub mod Tree
+pub mod Within
