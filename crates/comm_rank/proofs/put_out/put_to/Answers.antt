@@ -18,35 +18,46 @@ loop-k-init g c = record {
 
 pub returns-in_err-put_first-clause-failed : goal.returns-in_err-put_first-clause-failed
 returns-in_err-put_first-clause-failed g c =
-    let told = g.P.Post.told in
+    let before = c.args.held.now.lists in
+    let old = g.P.Post.told c.args.post.now in
+    let mid = g.P.Post.told c.loop-k.post in
+    let new = g.P.Post.told c.put_first.new.post in
     let i = c.loop-k.invariant in
-    let there : IfErr c.from_residual.result (PutsFailed c.args.here c.loop-k.held.lists c.put_first.new.held.lists (told c.loop-k.post) (told c.put_first.new.post)) = search rules in
+    let there : IfErr c.from_residual.result (PutsFailed c.args.here c.loop-k.held.lists c.put_first.new.held.lists mid new) = search rules in
     IfErr-weaker c.from_residual.result _ _
-    (λ fault f. record { placed = i.placed ++ f.placed; moved = moved_then c.args.here _ _ _ _ _ _ i.placed f.placed i.moved f.moved; no_memory = f.no_memory }) there
+    (λ fault f. record { placed = i.placed ++ f.placed; moved = moved_then c.args.here before c.loop-k.held.lists c.put_first.new.held.lists old mid new i.placed f.placed i.moved f.moved; no_memory = f.no_memory }) there
 
 pub returns-then-not-branch-clause-put : goal.returns-then-not-branch-clause-put
 returns-then-not-branch-clause-put g c =
+    let before = c.args.held.now.lists in
+    let old = g.P.Post.told c.args.post.now in
+    let mid = g.P.Post.told c.loop-k.post in
+    let new = g.P.Post.told c.put_first.new.post in
     let i = c.loop-k.invariant in
     let p = c.in_ok-put_first.ensures.put in
     record {
       placed = i.placed ++ p.placed;
-      moved = moved_then c.args.here _ _ _ _ _ _ i.placed p.placed i.moved p.moved;
+      moved = moved_then c.args.here before c.loop-k.held.lists c.put_first.new.held.lists old mid new i.placed p.placed i.moved p.moved;
       count = omega (arith, i.count, length-append i.placed p.placed, p.count, count_of_none _ c.if-not-branch.true);
-      until = found_full_at_last c.in_ok-put_first.field-0 c.args.here c.args.to _ _ _ _ _ c.if-not-branch.true i.moved.keeps.same.serves i.fulls p.one;
+      until = found_full_at_last c.in_ok-put_first.field-0 c.args.here c.args.to c.loop-k.held.lists c.put_first.new.held.lists old mid new c.if-not-branch.true i.moved.keeps.same.serves i.fulls p.one;
     }
 
 pub loop-k-preserved : goal.loop-k-preserved
 loop-k-preserved g c =
+    let before = c.args.held.now.lists in
+    let old = g.P.Post.told c.args.post.now in
+    let mid = g.P.Post.told c.loop-k.post in
+    let new = g.P.Post.told c.put_first.new.post in
     let i = c.loop-k.invariant in
     let p = c.in_ok-put_first.ensures.put in
-    let one = puts_one _ c.args.here c.args.to c.loop-k.held.lists c.put_first.new.held.lists _ _ c.if-not-branch.false p.one in
+    let one = puts_one c.in_ok-put_first.field-0 c.args.here c.args.to c.loop-k.held.lists c.put_first.new.held.lists mid new c.if-not-branch.false p.one in
     record {
       placed = i.placed ++ p.placed;
-      moved = moved_then c.args.here _ _ _ _ _ _ i.placed p.placed i.moved p.moved;
+      moved = moved_then c.args.here before c.loop-k.held.lists c.put_first.new.held.lists old mid new i.placed p.placed i.moved p.moved;
       count = omega (arith, i.count, length-append i.placed p.placed, p.count, count_of_one _ c.if-not-branch.false);
       remaining = omega (arith, i.remaining, one.0);
       fulls = λ rank. one.1 rank ∙ i.fulls rank;
-      others = others_then c.args.to _ _ _ i.others c.put_first.ensures.others;
+      others = others_then c.args.to before c.loop-k.held.lists c.put_first.new.held.lists i.others c.put_first.ensures.others;
       apart = c.put_first.ensures.apart;
     }
 
