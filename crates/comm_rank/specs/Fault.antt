@@ -5,13 +5,13 @@ use Rattle.comm_rank.specs.Fold.{Applies}
 use Rattle.comm_rank.specs.declared.fault.CommFault.{CommFault}
 use Rattle.comm_rank.specs.declared.fault.CommFault.TheVariants.{Stopped, CountFull, NoMemory}
 
--- of a call that met the stop as it began
+-- a fact of a call that met the stop as it began
 abbrev pub IfStopped : CommFault → Type 0 → Type 0
 IfStopped Stopped P = P
 IfStopped (CountFull at) P = ⊤
 IfStopped NoMemory P = ⊤
 
--- of a call of which the rank itself couldn't go on
+-- a fact of a call that failed at the rank itself
 abbrev pub UnlessStopped : CommFault → Type 0 → Type 0
 UnlessStopped Stopped P = ⊤
 UnlessStopped (CountFull at) P = P
@@ -23,7 +23,7 @@ IfCountFull Stopped P = ⊤
 IfCountFull (CountFull at) P = P at
 IfCountFull NoMemory P = ⊤
 
--- of a call that doesn't look at the stop
+-- a call that doesn't look at the stop returned this fault
 abbrev pub NeverStopped : CommFault → Type 0
 NeverStopped Stopped = ⊥
 NeverStopped (CountFull at) = ⊤

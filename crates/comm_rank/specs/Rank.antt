@@ -79,7 +79,7 @@ pub record HasSent {C : Type 0} (old new : Rank C) (l : Letter) : Type 0 where
   pub sent : (log : List Entry) (to : ℕ) → sent_to new log to ≡ sent_to old log to ++ of_pair old.here to (l ∷ [])
   pub rank : new ≡ record old { sent_count = old.sent_count + 1; held = new.held }
 
--- Letters ran at the rank or were put into its links: nothing changed of it but what these fields say.
+-- Letters ran at the rank, or were put into its links: of the rank, only these fields changed.
 abbrev pub Worked : {C : Type 0} → Rank C → Rank C → Type 0
 Worked old new = new ≡ record old { contents = new.contents; sent_count = new.sent_count; run_count = new.run_count; held = new.held; waiting = new.waiting }
 

@@ -85,7 +85,7 @@ fn round<H: Handler>(comms: &mut [Comm<H>], links: &mut PlainLinks) -> Result<bo
 /// nothing to do.
 ///
 /// It returns `Stopped` where a rank had raised the stop before, and then did nothing; `CountFull` where a handler
-/// gave a letter more than its rank may send; and `NoMemory` out of memory. The rank whose turn failed is then
+/// gave a letter more than its rank may send; and `NoMemory` for lack of memory. The rank whose turn failed is then
 /// stopped for good, and has raised the stop unless it met it; the others aren't stopped. Whatever the result, no
 /// letter is lost: each that was sent has run, waits at its destination, is in its link or is held by its sender, in
 /// order.
