@@ -1,15 +1,17 @@
 -- Only private functions cite this: the lines of each rank on their way to the ranks that own them.
-use Rattle.std.specs.Prelude.{◌≡◌, ℕ, ◌+◌, ◌<◌, ◌≤◌, ◌^◌, ◌==◌, false, List, [], ◌∷◌, ◌++◌, Some, length, map, filter, flat_map, slice_get, slice_index, if◌then◌else◌}
+use Rattle.std.specs.Prelude.{◌≡◌, ℕ, ◌+◌, ◌<◌, ◌≤◌, ◌==◌, false, List, [], ◌∷◌, ◌++◌, Some, length, map, filter, flat_map, slice_get, slice_index, if◌then◌else◌}
 use Rattle.std.specs.List.{AllByRecursion}
 use Rattle.msg_codec.specs.declared.letter.Letter.{Letter}
 use Rattle.ygm_route.specs.declared.scheme.Scheme.TheVariants.{Direct}
 use Rattle.ygm_route.specs.Layout.{Shape}
+use Rattle.world_core.specs.Limits.{most_letters}
 use Rattle.world_core.specs.Plain.{Plain, is_stopped}
 use Rattle.world_core.specs.World.{log_of}
 use Rattle.comm_rank.specs.Rank.{Rank, fresh_rank, ran_from, sent_to}
 use Rattle.comm_rank.specs.Settled.{AreRanks}
 use Rattle.counting_set.specs.Counting.{Counts, counting_apply, add_letter}
 use Rattle.counting_set.specs.Owner.{owner_of_key}
+use Rattle.ygm_run.specs.Limits.{max_line}
 
 -- the letters of a rank's lines to another rank: one for each line that the other owns, in order
 abbrev pub letters_of : ℕ → ℕ → ℕ → List (List ℕ) → List Letter
@@ -23,12 +25,12 @@ sent_counts comms = map (λ (me : Rank Counts). me.sent_count) comms
 -- none has raised the stop.
 pub record AreReady (comms : List (Rank Counts)) (links : Plain) : Type 0 where
   pub ranks : AreRanks counting_apply (λ _. []) comms links
-  pub most : (rank : ℕ) (me : Rank Counts) → slice_get comms rank ≡ Some me → me.most ≡ 2 ^ 56
+  pub most : (rank : ℕ) (me : Rank Counts) → slice_get comms rank ≡ Some me → me.most ≡ most_letters
   pub calm : is_stopped links ≡ false
 
 -- each rank has sent and run nothing
 abbrev pub AreFresh : Shape → List (Rank Counts) → Type 0
-AreFresh layout comms = (rank : ℕ) (me : Rank Counts) → slice_get comms rank ≡ Some me → me ≡ fresh_rank layout Direct rank (2 ^ 56) []
+AreFresh layout comms = (rank : ℕ) (me : Rank Counts) → slice_get comms rank ≡ Some me → me ≡ fresh_rank layout Direct rank most_letters []
 
 -- The lines that each rank has read so far (`own`) were sent: to each rank the letters of the lines that it owns, in
 -- order, and no others.
@@ -36,8 +38,8 @@ pub record Carried (own : ℕ → List (List ℕ)) (ranks : ℕ) (comms : List (
   pub all : length comms ≡ ranks
   pub counted : (rank : ℕ) (me : Rank Counts) → slice_get comms rank ≡ Some me → me.sent_count ≡ length (own rank)
   pub sent : (from to : ℕ) (me : Rank Counts) → to < ranks → slice_get comms from ≡ Some me → sent_to me (log_of links.world from) to ≡ letters_of ranks from to (own from)
-  pub short : (rank : ℕ) → AllByRecursion (λ line. length line ≤ 1000000) (own rank)
-  pub few : (rank : ℕ) → length (own rank) ≤ 2 ^ 56
+  pub short : (rank : ℕ) → AllByRecursion (λ line. length line ≤ max_line) (own rank)
+  pub few : (rank : ℕ) → length (own rank) ≤ most_letters
 
 -- the same lines, and one more of one rank
 abbrev pub with_line : (ℕ → List (List ℕ)) → ℕ → List ℕ → ℕ → List (List ℕ)
@@ -48,7 +50,7 @@ pub record LineSent (ranks rank : ℕ) (line : List ℕ) (before after : List (R
   pub ready : AreReady after new
   pub carried : (own : ℕ → List (List ℕ)) → Carried own ranks before old → Carried (with_line own rank line) ranks after new
   pub counted : slice_index (sent_counts after) rank ≡ slice_index (sent_counts before) rank + 1
-  pub bound : slice_index (sent_counts after) rank ≤ 2 ^ 56
+  pub bound : slice_index (sent_counts after) rank ≤ most_letters
 
 -- all that a rank has sent has run
 abbrev pub IsQuietFrom : List (Rank Counts) → Plain → ℕ → Type 0

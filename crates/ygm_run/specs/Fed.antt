@@ -9,7 +9,8 @@ use Rattle.counting_set.specs.Counting.{Counts}
 use Rattle.ygm_run.specs.declared.status.InputFault.{InputFault}
 use Rattle.ygm_run.specs.declared.status.InputFault.TheVariants.{Read, Bad}
 use Rattle.ygm_run.specs.Carried.{AreReady, Carried, sent_counts}
-use Rattle.ygm_run.specs.Limits.{max_line, most_letters}
+use Rattle.world_core.specs.Limits.{most_letters}
+use Rattle.ygm_run.specs.Limits.{max_line}
 use Rattle.ygm_run.specs.Lines.{lines_of, raw_lines, text_of, LacksLf, StartsTooLong}
 use Rattle.ygm_run.specs.Reading.{Reading}
 use Rattle.ygm_run.specs.Turns.{PieceBehind, RawLineTaken, to_come}

@@ -4,7 +4,8 @@ use Rattle.ygm_io.specs.Content.{ExposedBytes, TakenFrom, NothingLeft}
 use Rattle.ygm_run.specs.declared.status.InputFault.{InputFault}
 use Rattle.ygm_run.specs.declared.status.InputFault.TheVariants.{Read, Bad}
 use Rattle.ygm_run.specs.declared.status.LineWhy.{LineWhy}
-use Rattle.ygm_run.specs.Limits.{max_line, max_piece, most_letters}
+use Rattle.world_core.specs.Limits.{most_letters}
+use Rattle.ygm_run.specs.Limits.{max_line, max_piece}
 use Rattle.ygm_run.specs.Lines.{raw_lines, ended_lines, first_too_long}
 
 -- what remains of a content: some prefix of it was taken

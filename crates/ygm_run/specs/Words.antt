@@ -1,7 +1,7 @@
 -- What the program's words ask for, and why they are refused. A word is the list of its bytes.
 use Rattle.std.specs.Prelude.{ℕ, List, [], ◌∷◌, Result, Ok, Err, String, bytes_eq, codes, length, map, nat_eq, nat_lt, ◌==◌, string_bytes, if◌then◌else◌}
 use Rattle.std.specs.List.{starts_with}
-use Rattle.ygm_run.specs.Limits.{max_ranks}
+use Rattle.ygm_route.specs.Layout.{max_ranks}
 use Rattle.ygm_run.specs.declared.words.UsageKind.{UsageKind}
 use Rattle.ygm_run.specs.declared.words.UsageKind.TheVariants.{NoJob, UnknownJob, UnknownOption, NoFile, TooManyRanks}
 
@@ -25,7 +25,7 @@ files_of (word ∷ words) =
     else if starts_with nat_eq word (codes "--") then Err UnknownOption
     else Ok (word ∷ words)
 
--- the files, of which there are 1 to 32
+-- the files, of which there are 1 to `max_ranks`
 abbrev pub with_ranks : Result (List (List ℕ)) UsageKind → Result (List (List ℕ)) UsageKind
 with_ranks (Err kind) = Err kind
 with_ranks (Ok files) =

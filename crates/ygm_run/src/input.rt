@@ -1,7 +1,7 @@
 //! A rank's file: its bytes are read, and its lines are sent.
 ghost use Rattle.std.specs.Prelude.{◌≡◌, ◌<◌, ◌≤◌, ◌^◌, false, slice_index, IfOk, IfErr, OnOk};
 ghost use Rattle.comm_rank.specs.Fault.{IfCountFull, NeverStopped};
-ghost use Rattle.ygm_run.specs.Limits.{most_letters};
+ghost use Rattle.world_core.specs.Limits.{most_letters};
 ghost use Rattle.ygm_run.specs.Carried.{AreReady, sent_counts};
 ghost use Rattle.ygm_run.specs.Fed.{FullAtLine, IsSent, TurnFed};
 ghost use Rattle.ygm_run.specs.Inputs.{IsFull, IsRead, IsRest};

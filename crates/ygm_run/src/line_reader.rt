@@ -4,7 +4,7 @@ ghost use Rattle.ygm_io.specs.Rising.{next_count};
 ghost use Rattle.ygm_run.specs.Limits.{max_line};
 ghost use Rattle.ygm_run.specs.Turns.{ChangedNothing, GaveLine, GaveNoLine, IfLine, IfTooLong, MetEnd, MetTooLong, OnEnd, OnMore, OnNoMemory, OnReadFault, ReadFailed, ReadMore, TookTurn, UnlessLine};
 
-pub use crate::pieces::READING_SPACE;
+pub use crate::pieces::{MAX_LINE, READING_SPACE};
 use crate::pieces::{Pieces, TooLong};
 use rising_counts::one_more;
 use std::alloc::{AllocError, AllocFailed, Global};

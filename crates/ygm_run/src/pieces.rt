@@ -14,7 +14,7 @@ use ygm_io::{Failed, Source};
 pub const READING_SPACE: usize = 65_536;
 
 /// How many bytes a line has at most, including a CR and without its LF.
-const MAX_LINE: usize = 1_000_000;
+pub const MAX_LINE: usize = 1_000_000;
 
 /// The present line has more bytes than a line may have.
 pub struct TooLong;

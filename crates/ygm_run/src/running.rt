@@ -2,7 +2,8 @@
 ghost use Rattle.std.specs.Prelude.{◌≡◌, ◌<◌, ◌≤◌, ◌^◌, ℕ, List, [], Ok, Err, Some, IfErr, OnOk, length, map, slice_get, take};
 ghost use Rattle.ygm_io.specs.Content.{AppendedTo, NothingLeft};
 ghost use Rattle.ygm_io.specs.Rising.{Rose};
-ghost use Rattle.ygm_run.specs.Limits.{max_ranks, most_letters};
+ghost use Rattle.ygm_route.specs.Layout.{max_ranks};
+ghost use Rattle.world_core.specs.Limits.{most_letters};
 ghost use Rattle.ygm_run.specs.Ending.{EndsBy, FrontAppended, IsDoneIfMemory, IsNoted, OnDone, OnWriteFault, RunEnds, UnlessUnopened, UnlessWritten};
 ghost use Rattle.ygm_run.specs.JobEnds.{JobEnds, OfText, UnlessNoMemory, status_of};
 ghost use Rattle.ygm_run.specs.Inputs.{AreRests};

@@ -2,7 +2,7 @@
 ghost use Rattle.std.specs.Prelude.{◌≡◌, ◌<◌, ◌≤◌, ℕ, List, [], Some, map, length, slice_get, slice_index_or, IfOk, IfErr, OnOk};
 ghost use Rattle.std.specs.Option.{option_map};
 ghost use Rattle.comm_rank.specs.Fault.{NeverStopped};
-ghost use Rattle.ygm_run.specs.Limits.{max_ranks};
+ghost use Rattle.ygm_route.specs.Layout.{max_ranks};
 ghost use Rattle.ygm_run.specs.Carried.{AreReady, Carried};
 ghost use Rattle.ygm_run.specs.JobEnds.{IsFaultOf, JobStops, OfText};
 ghost use Rattle.ygm_run.specs.Inputs.{AllRead, AreRests};

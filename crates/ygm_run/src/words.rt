@@ -1,11 +1,11 @@
 //! The words that the program is called with: a job and its files.
 ghost use Rattle.std.specs.Prelude.{◌≡◌, ◌≤◌, Ok, Err, MatchResult, IfOk, length};
-ghost use Rattle.ygm_run.specs.Limits.{max_ranks};
+ghost use Rattle.ygm_route.specs.Layout.{max_ranks};
 ghost use Rattle.ygm_run.specs.Notes.{note_line};
 ghost use Rattle.ygm_run.specs.Words.{files_of, kind_text, order_of, texts_of};
 
 /// The greatest number of ranks. There is a rank for each file.
-pub const MAX_RANKS: usize = 32;
+pub const MAX_RANKS: usize = ygm_route::MAX_RANKS as usize;
 
 /// The name of the job that counts lines.
 const TALLY: &str = "tally";
@@ -24,7 +24,7 @@ pub enum UsageKind {
     UnknownOption,
     /// No word names a file.
     NoFile,
-    /// There would be more than 32 ranks, one for each file.
+    /// There would be more than `MAX_RANKS` ranks, one for each file.
     TooManyRanks,
 }
 

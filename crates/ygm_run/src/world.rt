@@ -1,9 +1,11 @@
 //! Ranks on one thread, each with its part of a counting set.
-ghost use Rattle.std.specs.Prelude.{◌≡◌, ◌<◌, ◌≤◌, ◌^◌, ℕ, List, [], ◌++◌, length, slice_index, IfOk, IfErr, OnOk};
+ghost use Rattle.std.specs.Prelude.{◌≡◌, ◌<◌, ◌≤◌, ℕ, List, [], ◌++◌, length, slice_index, IfOk, IfErr, OnOk};
 ghost use Rattle.ygm_route.specs.declared.scheme.Scheme.TheVariants.{Direct};
+ghost use Rattle.world_core.specs.Limits.{most_letters};
 ghost use Rattle.comm_rank.specs.declared.fault.CommFault.TheVariants.{NoMemory};
 ghost use Rattle.comm_rank.specs.Fault.{IsFullAt, NeverStopped};
 ghost use Rattle.ygm_run.specs.Carried.{AreFresh, AreReady, Carried, HasSettled, IsQuiet, LineSent, kept, sent_counts};
+ghost use Rattle.ygm_run.specs.Limits.{max_line};
 ghost use Rattle.ygm_run.specs.TallyText.{AreCounts, all_lines, pairs_of, tally_text};
 
 use crate::tally_text::table_of;
@@ -70,10 +72,10 @@ impl World {
     // Sends the line's letter to the line's owner.
     fn insert(&mut self, rank: u32, line: &[u8]) -> Result<(), CommFault>
         requires below { rank < self.old.ranks }
-        requires short { length line.now ≤ 1000000 }
+        requires short { length line.now ≤ max_line }
         requires ready { AreReady self.old.comms.items self.old.links }
         ensures sent { OnOk result (LineSent self.old.ranks rank line.now self.old.comms.items self.new.comms.items self.old.links self.new.links) }
-        ensures cause { IfErr result (IsFullAt (slice_index (sent_counts self.old.comms.items) rank) (2 ^ 56)) }
+        ensures cause { IfErr result (IsFullAt (slice_index (sent_counts self.old.comms.items) rank) most_letters) }
         ensures never_stopped { IfErr result NeverStopped }
         ensures ranks { self.new.ranks ≡ self.old.ranks }
     {
@@ -95,10 +97,10 @@ impl World {
     /// Sends a line of a rank to the rank that owns it. After every few thousand lines, what was sent is run.
     pub(crate) fn add_line(&mut self, rank: u32, line: &[u8]) -> Result<(), CommFault>
         requires below { rank < self.old.ranks }
-        requires short { length line.now ≤ 1000000 }
+        requires short { length line.now ≤ max_line }
         requires ready { AreReady self.old.comms.items self.old.links }
         ensures sent { OnOk result (LineSent self.old.ranks rank line.now self.old.comms.items self.new.comms.items self.old.links self.new.links) }
-        ensures cause { IfErr result (IsFullAt (slice_index (sent_counts self.old.comms.items) rank) (2 ^ 56)) }
+        ensures cause { IfErr result (IsFullAt (slice_index (sent_counts self.old.comms.items) rank) most_letters) }
         ensures never_stopped { IfErr result NeverStopped }
         ensures ranks { self.new.ranks ≡ self.old.ranks }
     {

@@ -25,7 +25,8 @@ use Rattle.comm_rank.specs.Settled.{IsRankOf}
 use Rattle.counting_set.specs.Counting.{Counts, counting_apply, AreCounted}
 use Rattle.counting_set.specs.Owner.{fnv, owner_of_key}
 use Rattle.counting_set.proofs.Counts.Counted.{adds_of_one_are_counted}
-use Rattle.ygm_run.specs.Limits.{max_ranks, most_letters}
+use Rattle.ygm_route.specs.Layout.{max_ranks}
+use Rattle.world_core.specs.Limits.{most_letters}
 use Rattle.ygm_run.specs.Carried.{AreReady, Carried, IsQuiet, kept, letters_of}
 use Rattle.ygm_run.specs.TallyText.{AreCounts, all_lines, times}
 use Rattle.ygm_run.proofs.TallyText.Times.{times-all_lines}

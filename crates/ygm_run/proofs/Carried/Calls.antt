@@ -1,10 +1,11 @@
 -- What calls on a world of ranks do, from what calls on its parts ensure.
-use Rattle.std.proofs.Common.{◌≡◌, ℕ, ◌+◌, ◌<◌, ◌≤◌, ◌^◌, true, false, List, [], Some, Result, Ok, Err, OnOk, IfErr, IsErr, refl, length, set, get_or, sym, ap, ◌∙◌, subst, inl, inr, arith, slice_get, length-set}
+use Rattle.std.proofs.Common.{◌≡◌, ℕ, ◌+◌, ◌<◌, ◌≤◌, true, false, List, [], Some, Result, Ok, Err, OnOk, IfErr, IsErr, refl, length, set, get_or, sym, ap, ◌∙◌, subst, inl, inr, arith, slice_get, length-set}
 use Rattle.std.specs.Option.{option_map}
 use Rattle.std.proofs.lemmas.Bool.{cases_eq, cases_lt, false≢true}
 use Rattle.std.proofs.lemmas.Option.{slice_get-map, slice_get_read, get_or_from_slice_get}
 use Rattle.list_facts.proofs.Places.{item_kept, item_placed, item_set}
 use Rattle.world_core.specs.declared.entry.Entry.{Entry}
+use Rattle.world_core.specs.Limits.{most_letters}
 use Rattle.world_core.specs.Modest.{IsWorld}
 use Rattle.world_core.specs.Plain.{Plain, is_stopped, told_by}
 use Rattle.world_core.specs.Post.{SameStops}
@@ -19,6 +20,7 @@ use Rattle.comm_rank.proofs.Rank.Sent.{sent_elsewhere, sent_there}
 use Rattle.counting_set.specs.Counting.{Counts, counting_apply, add_letter}
 use Rattle.counting_set.specs.Owner.{owner_of_key}
 use Rattle.ygm_run.specs.Carried.{AreReady, HasSettled, LineSent, sent_counts}
+use Rattle.ygm_run.specs.Limits.{max_line}
 use Rattle.ygm_run.proofs.Carried.Preserved.{SentLine, caller_quiet, carried_line, carried_settled, counts_none, ready_settled, same_counts, stays_quiet}
 
 -- ---- a line is sent
@@ -74,7 +76,7 @@ module _ (n rank : ℕ) (comms : List (Rank Counts)) (links : Plain) (old now : 
         }
 
   -- a rank that sent the line's letter, and had room for it
-  pub line_sent : (r : Result (Unit {0}) CommFault) (line : List ℕ) → length line ≤ 1000000
+  pub line_sent : (r : Result (Unit {0}) CommFault) (line : List ℕ) → length line ≤ max_line
       → OnOk r (HasSent old now (add_letter (owner_of_key line old.layout.ranks) old.here line)) → (old.most ≤ old.sent_count → IsErr r)
       → ((log : List Entry) → Agrees counting_apply (λ _. []) old log → Agrees counting_apply (λ _. []) now log)
       → OnOk r (LineSent n rank line comms (set comms rank now) links links)
@@ -87,8 +89,8 @@ module _ (n rank : ℕ) (comms : List (Rank Counts)) (links : Plain) (old now : 
         counted = counted sent.rank;
       } in
       let one' : SentLine n rank line old now = subst (λ k. SentLine k rank line old now) ranks_of (subst (λ i. SentLine old.layout.ranks i line old now) was.here one) in
-      let room : old.sent_count < 2 ^ 56 = elim (cases_lt old.sent_count old.most) [ inl below ↦ omega (arith, below, ready.most rank old at) | inr above ↦ absurd (false≢true (full above)) ] in
-      let few : now.sent_count ≤ 2 ^ 56 = omega (arith, counted sent.rank, room) in
+      let room : old.sent_count < most_letters = elim (cases_lt old.sent_count old.most) [ inl below ↦ omega (arith, below, ready.most rank old at) | inr above ↦ absurd (false≢true (full above)) ] in
+      let few : now.sent_count ≤ most_letters = omega (arith, counted sent.rank, room) in
       record {
         ready = ready_after sent.rank keeps;
         carried = λ own c. carried_line own n rank comms links line old now c at one' few fits;
@@ -96,7 +98,7 @@ module _ (n rank : ℕ) (comms : List (Rank Counts)) (links : Plain) (old now : 
         bound = omega (arith, count_after, few);
       }
 
-  pub insert_cause : (r : Result (Unit {0}) CommFault) → IfErr r (IsFullAt old.sent_count old.most) → IfErr r (IsFullAt (get_or (sent_counts comms) rank 0) (2 ^ 56))
+  pub insert_cause : (r : Result (Unit {0}) CommFault) → IfErr r (IsFullAt old.sent_count old.most) → IfErr r (IsFullAt (get_or (sent_counts comms) rank 0) most_letters)
   insert_cause r cause = rw (count_before, sym (ready.most rank old at)) cause
 
 -- ---- a weak barrier

@@ -1,5 +1,5 @@
 -- Lines are sent and letters run, and `Carried` and `AreReady` still hold.
-use Rattle.std.proofs.Common.{◌≡◌, ◌≢◌, ℕ, ◌+◌, ◌<◌, ◌≤◌, ◌^◌, cond, eqb, List, [], ◌∷◌, ◌++◌, Some, length, map, set, suc, refl, sym, ap, ◌∙◌, subst, inl, inr, arith, slice_get, length-append, length-set, append-nil}
+use Rattle.std.proofs.Common.{◌≡◌, ◌≢◌, ℕ, ◌+◌, ◌<◌, ◌≤◌, cond, eqb, List, [], ◌∷◌, ◌++◌, Some, length, map, set, suc, refl, sym, ap, ◌∙◌, subst, inl, inr, arith, slice_get, length-append, length-set, append-nil}
 use Rattle.std.proofs.lemmas.List.{map-append, get_or-replicate}
 use Rattle.std.proofs.lemmas.List.Elements.{filter-append}
 use Rattle.std.proofs.lemmas.Bool.{cases_eq, cases_lt, eq-eqb, ne_eqb}
@@ -12,6 +12,7 @@ use Rattle.list_facts.proofs.Tests.{none_raised}
 use Rattle.ygm_route.specs.declared.scheme.Scheme.TheVariants.{Direct}
 use Rattle.ygm_route.specs.Layout.{Shape}
 use Rattle.world_core.specs.declared.entry.Entry.{Entry}
+use Rattle.world_core.specs.Limits.{most_letters}
 use Rattle.world_core.specs.Pairs.{of_pair}
 use Rattle.world_core.specs.Plain.{Plain, fresh_links, is_stopped, told_by}
 use Rattle.world_core.specs.Post.{SameStops}
@@ -27,6 +28,7 @@ use Rattle.counting_set.specs.Counting.{Counts, counting_apply, add_letter}
 use Rattle.counting_set.specs.Owner.{owner_of_key}
 use Rattle.counting_set.proofs.Counts.After.{handed-none}
 use Rattle.ygm_run.specs.Carried.{AreFresh, AreReady, Carried, IsQuietFrom, letters_of, sent_counts, with_line}
+use Rattle.ygm_run.specs.Limits.{max_line}
 
 -- ---- the start
 
@@ -48,7 +50,7 @@ module _ (layout : Shape) (ring batches : ℕ) (comms : List (Rank Counts)) (lin
     few = λ r. omega arith;
   }
 
-  pub ready_at_first : 2 ^ 56 ≤ batches → AreReady comms links
+  pub ready_at_first : most_letters ≤ batches → AreReady comms links
   ready_at_first few = record {
     ranks = record {
       all = all ∙ sym (ap (λ (l : Plain). l.world.layout.ranks) none);
@@ -58,7 +60,7 @@ module _ (layout : Shape) (ring batches : ℕ) (comms : List (Rank Counts)) (lin
         scheme = ap (λ (r : Rank Counts). r.scheme) (fresh rank me at) ∙ sym (ap (λ (l : Plain). l.world.scheme) none);
         going = ap (λ (r : Rank Counts). r.stopped) (fresh rank me at);
         few = omega (arith, few, ap (λ (r : Rank Counts). r.most) (fresh rank me at), ap (λ (l : Plain). l.batches) none);
-        agrees = rw (no_log rank me at, fresh rank me at) (agrees_fresh counting_apply (λ _. []) layout Direct rank (2 ^ 56) [] refl refl);
+        agrees = rw (no_log rank me at, fresh rank me at) (agrees_fresh counting_apply (λ _. []) layout Direct rank most_letters [] refl refl);
       };
     };
     most = λ rank me at. ap (λ (r : Rank Counts). r.most) (fresh rank me at);
@@ -66,14 +68,14 @@ module _ (layout : Shape) (ring batches : ℕ) (comms : List (Rank Counts)) (lin
   }
 
 -- one fresh rank more
-pub fresh_more : (layout : Shape) (comms : List (Rank Counts)) (me : Rank Counts) → AreFresh layout comms → me ≡ fresh_rank layout Direct (length comms) (2 ^ 56) [] → AreFresh layout (comms ++ me ∷ [])
+pub fresh_more : (layout : Shape) (comms : List (Rank Counts)) (me : Rank Counts) → AreFresh layout comms → me ≡ fresh_rank layout Direct (length comms) most_letters [] → AreFresh layout (comms ++ me ∷ [])
 fresh_more layout comms me fresh last rank found e = elim (cases_lt rank (length comms)) [
   | inl lt ↦ fresh rank found (sym (item_left comms (me ∷ []) rank lt) ∙ e)
   | inr le ↦
       let within = slice_get_within (comms ++ me ∷ []) rank found e in
       let here : rank ≡ length comms = omega (arith, le, within, length-append comms (me ∷ [])) in
       let same : me ≡ found = same_item (comms ++ me ∷ []) (length comms) me found (item_at_end comms me []) (subst (λ k. slice_get (comms ++ me ∷ []) k ≡ Some found) here e) in
-      sym same ∙ last ∙ ap (λ k. fresh_rank layout Direct k (2 ^ 56) []) (sym here)
+      sym same ∙ last ∙ ap (λ k. fresh_rank layout Direct k most_letters []) (sym here)
 ]
 
 -- ---- one line more
@@ -122,7 +124,7 @@ module _ (own : ℕ → List (List ℕ)) (n s : ℕ) (comms : List (Rank Counts)
       ]
 
   -- a rank sent one line more
-  pub carried_line : now.sent_count ≤ 2 ^ 56 → length line ≤ 1000000 → Carried (with_line own s line) n (set comms s now) links
+  pub carried_line : now.sent_count ≤ most_letters → length line ≤ max_line → Carried (with_line own s line) n (set comms s now) links
   carried_line bound fits = record {
     all = length-set comms s now ∙ c.all;
     counted = λ r m e. elim (cases_eq r s) [
@@ -140,8 +142,8 @@ module _ (own : ℕ → List (List ℕ)) (n s : ℕ) (comms : List (Rank Counts)
       | inr x ↦ c.sent r to m t (sym (item_kept comms s r now x) ∙ e) ∙ ap (letters_of n r to) (sym (with_line-other own s r line x))
     ];
     short = λ r. elim (cases_eq r s) [
-      | inl x ↦ subst (AllByRecursion (λ l. length l ≤ 1000000)) (sym (with_line-same own s r line x)) (All-more (λ l. length l ≤ 1000000) (own r) line (c.short r) fits)
-      | inr x ↦ subst (AllByRecursion (λ l. length l ≤ 1000000)) (sym (with_line-other own s r line x)) (c.short r)
+      | inl x ↦ subst (AllByRecursion (λ l. length l ≤ max_line)) (sym (with_line-same own s r line x)) (All-more (λ l. length l ≤ max_line) (own r) line (c.short r) fits)
+      | inr x ↦ subst (AllByRecursion (λ l. length l ≤ max_line)) (sym (with_line-other own s r line x)) (c.short r)
     ];
     few = λ r. elim (cases_eq r s) [
       | inl x ↦

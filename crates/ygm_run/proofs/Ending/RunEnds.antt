@@ -19,7 +19,7 @@ use Rattle.ygm_run.specs.JobEnds.{JobEnds, UnlessNoMemory, status_of}
 use Rattle.list_facts.proofs.Places.{same_item}
 use Rattle.ygm_run.specs.Inputs.{AllRead, AreRests, IsFullAtRank, IsLowestFault, IsRead, IsRest, good_lines}
 use Rattle.ygm_run.specs.Job.{AreGood, AreExposed, lines_of_each, letters_bound}
-use Rattle.ygm_run.specs.Limits.{most_letters}
+use Rattle.world_core.specs.Limits.{most_letters}
 use Rattle.ygm_run.specs.Lines.{first_too_long, lines_of, raw_lines, text_of}
 use Rattle.ygm_run.specs.Notes.{note_text}
 use Rattle.ygm_run.specs.TallyText.{all_lines}

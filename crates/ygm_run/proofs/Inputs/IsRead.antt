@@ -9,7 +9,8 @@ use Rattle.ygm_run.specs.declared.status.InputFault.{InputFault}
 use Rattle.ygm_run.specs.declared.status.InputFault.TheVariants.{Read, Bad}
 use Rattle.ygm_run.specs.Fed.{LinesTaken, EndedWith}
 use Rattle.ygm_run.specs.Inputs.{IsRead, NothingBehind}
-use Rattle.ygm_run.specs.Limits.{max_line, max_piece, most_letters}
+use Rattle.world_core.specs.Limits.{most_letters}
+use Rattle.ygm_run.specs.Limits.{max_line, max_piece}
 use Rattle.ygm_run.specs.Lines.{ended_lines, raw_lines, first_too_long}
 use Rattle.ygm_run.specs.Reading.{Reading}
 use Rattle.ygm_run.specs.Turns.{to_come}

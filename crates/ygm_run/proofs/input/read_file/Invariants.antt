@@ -2,7 +2,7 @@ use Rattle.std.proofs.Common.{◌≡◌, ◌≤◌, ◌+◌, [], true, false, co
 use Rattle.ygm_run.specs.Carried.{AreReady, sent_counts}
 use Rattle.ygm_run.specs.Fed.{EndedWith, Fed, turns_left}
 use Rattle.ygm_run.specs.Inputs.{IsRest, NothingBehind}
-use Rattle.ygm_run.specs.Limits.{most_letters}
+use Rattle.world_core.specs.Limits.{most_letters}
 use Rattle.ygm_run.proofs.input.read_file.Given as goal
 
 -- lines were given to the world, as many as the rank has sent; where the reader is done, all of them before the fault
