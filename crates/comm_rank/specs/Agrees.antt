@@ -5,7 +5,7 @@ use Rattle.world_core.specs.declared.entry.Entry.{Entry}
 use Rattle.world_core.specs.Local.{to_forward}
 use Rattle.world_core.specs.Modest.{IsModest}
 use Rattle.world_core.specs.Pairs.{of_pair, of_sender, own}
-use Rattle.world_core.specs.Post.{Told}
+use Rattle.world_core.specs.Post.{PostState}
 use Rattle.comm_rank.specs.Fold.{Applies, fold_from, handed_from}
 use Rattle.comm_rank.specs.Rank.{Rank, local_of, held_letters, sent_to, ran_at}
 
@@ -22,7 +22,7 @@ pub record Agrees {C : Type 0} (apply : Applies C) (start : C → C) (me : Rank 
   pub modest : IsModest (local_of me log)
 
 -- A rank belongs to a post: the post serves it and is of the same world, and the rank agrees with its log there.
-pub record Belongs {C : Type 0} (apply : Applies C) (start : C → C) (me : Rank C) (post : Told) : Type 0 where
+pub record Belongs {C : Type 0} (apply : Applies C) (start : C → C) (me : Rank C) (post : PostState) : Type 0 where
   pub serves : IsTrue (post.serves me.here)
   pub layout : post.layout ≡ me.layout
   pub scheme : post.scheme ≡ me.scheme

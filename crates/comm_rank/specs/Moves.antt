@@ -7,7 +7,7 @@ use Rattle.world_core.specs.declared.entry.Entry.{Entry}
 use Rattle.world_core.specs.Limits.{most_letters}
 use Rattle.world_core.specs.Log.{letters_of}
 use Rattle.world_core.specs.Pairs.{of_pair, of_sender, own, sent}
-use Rattle.world_core.specs.Post.{CountsNeverFall, FullsRise, SameFulls, SameMisses, SamePost, SameStops, Told, local_at}
+use Rattle.world_core.specs.Post.{CountsNeverFall, FullsRise, SameFulls, SameMisses, SamePost, SameStops, PostState, local_at}
 use Rattle.world_core.specs.Rules.{IsHonest}
 use Rattle.comm_rank.specs.declared.fault.CommFault.{CommFault}
 use Rattle.comm_rank.specs.declared.fault.CommFault.TheVariants.{NoMemory}
@@ -17,7 +17,7 @@ use Rattle.comm_rank.specs.Turns.{FirstFull, IsPut, MetFull, NoneOrFull}
 
 -- A rank may put what it holds: it is a rank of the post's world, where letters go straight to their destination; the
 -- letters that it holds are its own, and with them it has sent no more than a rank may.
-pub record MayPut (here : ℕ) (held : List (List Letter)) (post : Told) : Type 0 where
+pub record MayPut (here : ℕ) (held : List (List Letter)) (post : PostState) : Type 0 where
   pub all : length held ≡ post.layout.ranks
   pub within : here < post.layout.ranks
   pub serves : IsTrue (post.serves here)
@@ -26,7 +26,7 @@ pub record MayPut (here : ℕ) (held : List (List Letter)) (post : Told) : Type 
   pub few : length (own here (post.log here)) + length (of_sender here (letters_of held)) ≤ most_letters
 
 -- what puts leave unchanged at the post
-pub record MoveKeeps (here : ℕ) (old new : Told) : Type 0 where
+pub record MoveKeeps (here : ℕ) (old new : PostState) : Type 0 where
   pub same : SamePost here old new
   pub stops : SameStops old new
   pub misses : SameMisses old new
@@ -35,7 +35,7 @@ pub record MoveKeeps (here : ℕ) (old new : Told) : Type 0 where
 
 -- Letters moved from what a rank holds into its log, which gained honest puts alone. What was sent to each rank is
 -- unchanged, and so is its count.
-pub record Moved (here : ℕ) (before after : List (List Letter)) (old new : Told) (placed : List Entry) : Type 0 where
+pub record Moved (here : ℕ) (before after : List (List Letter)) (old new : PostState) (placed : List Entry) : Type 0 where
   pub log : new.log here ≡ old.log here ++ placed
   pub puts : AllByRecursion IsPut placed
   pub honest : IsHonest (local_at old here) → IsHonest (local_at new here)
@@ -46,7 +46,7 @@ pub record Moved (here : ℕ) (before after : List (List Letter)) (old new : Tol
   pub keeps : MoveKeeps here old new
 
 -- puts that lack of memory ended
-pub record PutsFailed (here : ℕ) (before after : List (List Letter)) (old new : Told) (fault : CommFault) : Type 0 where
+pub record PutsFailed (here : ℕ) (before after : List (List Letter)) (old new : PostState) (fault : CommFault) : Type 0 where
   pub placed : List Entry
   pub moved : Moved here before after old new placed
   pub no_memory : fault ≡ NoMemory
@@ -54,7 +54,7 @@ pub record PutsFailed (here : ℕ) (before after : List (List Letter)) (old new 
 -- ---- one put to a rank
 
 -- the first letter for it was put, or the link was full
-abbrev pub PutsOne : Bool → ℕ → ℕ → List (List Letter) → List (List Letter) → Told → Told → Type 0
+abbrev pub PutsOne : Bool → ℕ → ℕ → List (List Letter) → List (List Letter) → PostState → PostState → Type 0
 PutsOne true here to before after old new = (length (held_for before to) ≡ length (held_for after to) + 1) × SameFulls old new
 PutsOne false here to before after old new = MetFull here to after old new × FullsRise to old new
 
@@ -62,7 +62,7 @@ abbrev pub put_count : Bool → ℕ
 put_count true = 1
 put_count false = 0
 
-pub record HasPutFirst (here to : ℕ) (before after : List (List Letter)) (old new : Told) (put : Bool) : Type 0 where
+pub record HasPutFirst (here to : ℕ) (before after : List (List Letter)) (old new : PostState) (put : Bool) : Type 0 where
   pub placed : List Entry
   pub moved : Moved here before after old new placed
   pub count : length placed ≡ put_count put
@@ -71,11 +71,11 @@ pub record HasPutFirst (here to : ℕ) (before after : List (List Letter)) (old 
 -- ---- puts to one rank
 
 -- the link is full, or no closed batch is held for it
-abbrev pub PutUntil : Bool → ℕ → ℕ → List (List Letter) → Told → Told → Type 0
+abbrev pub PutUntil : Bool → ℕ → ℕ → List (List Letter) → PostState → PostState → Type 0
 PutUntil true here to held old new = MetFull here to held old new × FullsRise to old new
 PutUntil false here to held old new = NoneClosed held to × SameFulls old new
 
-pub record HasPutTo (here to : ℕ) (before after : List (List Letter)) (old new : Told) (put : ℕ) (full : Bool) : Type 0 where
+pub record HasPutTo (here to : ℕ) (before after : List (List Letter)) (old new : PostState) (put : ℕ) (full : Bool) : Type 0 where
   pub placed : List Entry
   pub moved : Moved here before after old new placed
   pub count : put ≡ length placed
@@ -83,7 +83,7 @@ pub record HasPutTo (here to : ℕ) (before after : List (List Letter)) (old new
 
 -- ---- puts to all ranks
 
-pub record HasPutEach (here ranks : ℕ) (before after : List (List Letter)) (old new : Told) (put : ℕ) (full : Option ℕ) : Type 0 where
+pub record HasPutEach (here ranks : ℕ) (before after : List (List Letter)) (old new : PostState) (put : ℕ) (full : Option ℕ) : Type 0 where
   pub placed : List Entry
   pub moved : Moved here before after old new placed
   pub count : put ≡ min (length placed) (2 ^ 64 - 1)
@@ -99,14 +99,14 @@ pub record PutOut {C : Type 0} (old new : Rank C) (before after placed : List En
   pub sent : (to : ℕ) → sent_to new after to ≡ sent_to old before to
   pub ran : ran_at new after ≡ ran_at old before
 
-pub record HasPutAll {C : Type 0} (old new : Rank C) (before after : Told) (put : ℕ) (full : Option ℕ) : Type 0 where
+pub record HasPutAll {C : Type 0} (old new : Rank C) (before after : PostState) (put : ℕ) (full : Option ℕ) : Type 0 where
   pub placed : List Entry
   pub out : PutOut old new (before.log old.here) (after.log old.here) placed
   pub count : put ≡ min (length placed) (2 ^ 64 - 1)
   pub none_or_full : (to : ℕ) → to < old.layout.ranks → NoneOrFull old.here to new.held before after
   pub first_full : FirstFull old.layout.ranks new.held before after full
 
-pub record PutAllFailed {C : Type 0} (old new : Rank C) (before after : Told) (fault : CommFault) : Type 0 where
+pub record PutAllFailed {C : Type 0} (old new : Rank C) (before after : PostState) (fault : CommFault) : Type 0 where
   pub placed : List Entry
   pub out : PutOut old new (before.log old.here) (after.log old.here) placed
   pub no_memory : fault ≡ NoMemory

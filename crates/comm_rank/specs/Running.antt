@@ -5,7 +5,7 @@ use Rattle.msg_codec.specs.declared.letter.Letter.{Letter}
 use Rattle.world_core.specs.declared.entry.Entry.{Entry}
 use Rattle.world_core.specs.Log.{batches_taken, letters_taken}
 use Rattle.world_core.specs.Pairs.{is_data, for_rank}
-use Rattle.world_core.specs.Post.{CountsNeverFall, SameFulls, SamePost, SameStops, Told, link_in}
+use Rattle.world_core.specs.Post.{CountsNeverFall, SameFulls, SamePost, SameStops, PostState, link_in}
 use Rattle.world_core.specs.Rules.{IsHonest}
 use Rattle.comm_rank.specs.declared.fault.CommFault.{CommFault}
 use Rattle.comm_rank.specs.Agrees.{Belongs}
@@ -109,7 +109,7 @@ pub record CutFrom {C : Type 0} (from : ℕ) (apply : Applies C) (old new : Rank
   pub one : length cut.taken ≤ 1
 
 -- nothing was taken from a rank, and no miss was counted there; its link is unchanged
-pub record NotLookedAt (here from : ℕ) (old new : Told) : Type 0 where
+pub record NotLookedAt (here from : ℕ) (old new : PostState) : Type 0 where
   pub taken : batches_taken from (new.log here) ≡ batches_taken from (old.log here)
   pub misses : new.misses from ≡ old.misses from
   pub serves : new.serves from ≡ old.serves from
@@ -118,7 +118,7 @@ pub record NotLookedAt (here from : ℕ) (old new : Told) : Type 0 where
 -- ---- the outcomes of takes, for the rank and for what the post shows
 
 -- from one rank
-pub record HasTakenFrom {C : Type 0} (from : ℕ) (apply : Applies C) (start : C → C) (old new : Rank C) (before after : Told) (took : ℕ) : Type 0 where
+pub record HasTakenFrom {C : Type 0} (from : ℕ) (apply : Applies C) (start : C → C) (old new : Rank C) (before after : PostState) (took : ℕ) : Type 0 where
   pub taken : TookFrom from apply old new (before.log old.here) (after.log old.here) took
   pub belongs : Belongs apply start new after
   pub looked : LookedAt old.here from before after
@@ -131,13 +131,13 @@ pub record WasCutFrom {C : Type 0} (from : ℕ) (apply : Applies C) (old new : R
   pub cause : IsCause apply old new fault
 
 -- from each rank
-pub record HasTakenAll {C : Type 0} (apply : Applies C) (start : C → C) (old new : Rank C) (before after : Told) (took : ℕ) : Type 0 where
+pub record HasTakenAll {C : Type 0} (apply : Applies C) (start : C → C) (old new : Rank C) (before after : PostState) (took : ℕ) : Type 0 where
   pub taken : TookAll apply old new (before.log old.here) (after.log old.here) took
   pub belongs : Belongs apply start new after
   pub takes_from_each : (from : ℕ) → from < old.layout.ranks → LookedAt old.here from before after
 
 -- what work leaves unchanged at the post
-pub record WorkKeeps {C : Type 0} (me : Rank C) (before after : Told) : Type 0 where
+pub record WorkKeeps {C : Type 0} (me : Rank C) (before after : PostState) : Type 0 where
   pub same : SamePost me.here before after
   pub honest : IsHonest (local_of me (before.log me.here)) → IsHonest (local_of me (after.log me.here))
   pub stops : SameStops before after
@@ -145,6 +145,6 @@ pub record WorkKeeps {C : Type 0} (me : Rank C) (before after : Told) : Type 0 w
   pub counts : CountsNeverFall before after
 
 -- the same, and takes find no link full
-pub record TakesKeep {C : Type 0} (me : Rank C) (before after : Told) : Type 0 where
+pub record TakesKeep {C : Type 0} (me : Rank C) (before after : PostState) : Type 0 where
   pub work : WorkKeeps me before after
   pub fulls : SameFulls before after

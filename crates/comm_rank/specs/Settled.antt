@@ -5,7 +5,7 @@ use Rattle.msg_codec.specs.declared.letter.Letter.{Letter}
 use Rattle.world_core.specs.declared.entry.Entry.{Entry}
 use Rattle.world_core.specs.Log.{letters_of}
 use Rattle.world_core.specs.Pairs.{of_pair, pair_put, pair_taken}
-use Rattle.world_core.specs.Plain.{Plain, told_by}
+use Rattle.world_core.specs.Plain.{Plain, state_of}
 use Rattle.world_core.specs.World.{link, log_of}
 use Rattle.comm_rank.specs.Agrees.{Agrees}
 use Rattle.comm_rank.specs.Fault.{IfCountFull, IfStopped, IsFullAt, UnlessStopped}
@@ -83,9 +83,9 @@ pub record FailedAt {C : Type 0} (apply : Applies C) (start : C → C) (before a
   pub stopped : me.stopped ≡ true
   pub cause : IsFullAt me.sent_count me.most fault
   pub cut_off : (b : Rank C) → slice_get before rank ≡ Some b → LastTurn apply b me (log_of old.world rank) (log_of new.world rank) fault
-  pub raised : UnlessStopped fault ((told_by new).raised rank ≡ true)
-  pub stop_stands : IfStopped fault ((told_by new).raised rank ≡ (told_by old).raised rank)
-  pub other_stops : (other : ℕ) → other ≢ rank → (told_by new).raised other ≡ (told_by old).raised other
+  pub raised : UnlessStopped fault ((state_of new).raised rank ≡ true)
+  pub stop_stands : IfStopped fault ((state_of new).raised rank ≡ (state_of old).raised rank)
+  pub other_stops : (other : ℕ) → other ≢ rank → (state_of new).raised other ≡ (state_of old).raised other
   pub others : (other : ℕ) → other ≢ rank → HasAdvanced apply before after old new other
   pub others_go_on : (other : ℕ) (a : Rank C) → other ≢ rank → slice_get after other ≡ Some a → IsRankOf apply start new other a
 

@@ -6,7 +6,7 @@ use Rattle.world_core.specs.declared.entry.Entry.{Entry}
 use Rattle.world_core.specs.declared.entry.Entry.TheVariants.{Put, Took}
 use Rattle.world_core.specs.Log.{batches_taken, letters_taken}
 use Rattle.world_core.specs.Pairs.{for_rank, of_pair}
-use Rattle.world_core.specs.Post.{CountsNeverFall, SameFulls, SamePost, SameStops, ServesAll, SomeRaised, Told, is_full_in, link_in}
+use Rattle.world_core.specs.Post.{CountsNeverFall, SameFulls, SamePost, SameStops, ServesAll, SomeRaised, PostState, is_full_in, link_in}
 use Rattle.world_core.specs.Rising.{Rose}
 use Rattle.world_core.specs.Rules.{IsHonest}
 use Rattle.comm_rank.specs.declared.turn.Turn.{Turn}
@@ -113,31 +113,31 @@ pub record WasCut {C : Type 0} (apply : Applies C) (old new : Rank C) (before af
 -- ---- what it found at the post
 
 -- It took a batch from the rank, or found none: where the post serves that rank too, the link was empty.
-abbrev pub LookedAt : ℕ → ℕ → Told → Told → Type 0
+abbrev pub LookedAt : ℕ → ℕ → PostState → PostState → Type 0
 LookedAt here from old new =
     (length (batches_taken from (new.log here)) ≡ length (batches_taken from (old.log here)) + 1)
     ⊎ (Rose (old.misses from) (new.misses from) × (IsTrue (old.serves from) → link_in old from here ≡ []))
 
 -- The link to a rank was found full, with a closed batch for it that is still held. Where the post serves both ends,
 -- the link is full.
-pub record MetFull (here to : ℕ) (held : List (List Letter)) (old new : Told) : Type 0 where
+pub record MetFull (here to : ℕ) (held : List (List Letter)) (old new : PostState) : Type 0 where
   pub rose : Rose (old.fulls to) (new.fulls to)
   pub some : NoneClosed held to → ⊥
   pub full : IsTrue (old.serves to) → IsTrue (is_full_in new here to)
 
 -- no closed batch is held for a rank, or the link to it was found full
-abbrev pub NoneOrFull : ℕ → ℕ → List (List Letter) → Told → Told → Type 0
+abbrev pub NoneOrFull : ℕ → ℕ → List (List Letter) → PostState → PostState → Type 0
 NoneOrFull here to held old new = NoneClosed held to ⊎ MetFull here to held old new
 
 -- this rank, one of so many, is the lowest to which the link was found full
-pub record IsFirstFull (ranks to : ℕ) (held : List (List Letter)) (old new : Told) : Type 0 where
+pub record IsFirstFull (ranks to : ℕ) (held : List (List Letter)) (old new : PostState) : Type 0 where
   pub within : to < ranks
   pub rose : Rose (old.fulls to) (new.fulls to)
   pub some : NoneClosed held to → ⊥
   pub lower : (rank : ℕ) → rank < to → new.fulls rank ≡ old.fulls rank
 
 -- such a rank, or no link was found full
-abbrev pub FirstFull : ℕ → List (List Letter) → Told → Told → Option ℕ → Type 0
+abbrev pub FirstFull : ℕ → List (List Letter) → PostState → PostState → Option ℕ → Type 0
 FirstFull ranks held old new None = SameFulls old new
 FirstFull ranks held old new (Some to) = IsFirstFull ranks to held old new
 
@@ -145,7 +145,7 @@ FirstFull ranks held old new (Some to) = IsFirstFull ranks to held old new
 
 -- It ended: it took a batch from each link that had one, and put what the rank holds, until no closed batch was held or
 -- the link was full.
-pub record HasEnded {C : Type 0} (apply : Applies C) (start : C → C) (old new : Rank C) (before after : Told) (turn : Turn) : Type 0 where
+pub record HasEnded {C : Type 0} (apply : Applies C) (start : C → C) (old new : Rank C) (before after : PostState) (turn : Turn) : Type 0 where
   pub turned : Turned apply old new (before.log old.here) (after.log old.here) turn
   pub belongs : Belongs apply start new after
   pub takes_from_each : (from : ℕ) → from < old.layout.ranks → LookedAt old.here from before after
@@ -155,7 +155,7 @@ pub record HasEnded {C : Type 0} (apply : Applies C) (start : C → C) (old new 
   pub halts : after.halts ≡ before.halts
 
 -- It met the stop, which a rank had raised, and did nothing.
-pub record HasHalted {C : Type 0} (old new : Rank C) (before after : Told) : Type 0 where
+pub record HasHalted {C : Type 0} (old new : Rank C) (before after : PostState) : Type 0 where
   pub does_nothing : new ≡ halted old
   pub log : after.log old.here ≡ before.log old.here
   pub raised_before : ServesAll before → SomeRaised before
@@ -163,14 +163,14 @@ pub record HasHalted {C : Type 0} (old new : Rank C) (before after : Told) : Typ
   pub halts : Rose before.halts after.halts
 
 -- It was cut off, and the rank raised the stop.
-pub record HasFailed {C : Type 0} (apply : Applies C) (old new : Rank C) (before after : Told) (fault : CommFault) : Type 0 where
+pub record HasFailed {C : Type 0} (apply : Applies C) (old new : Rank C) (before after : PostState) (fault : CommFault) : Type 0 where
   pub was_cut : WasCut apply old new (before.log old.here) (after.log old.here) fault
   pub raises_the_stop : after.raised old.here ≡ true
   pub halts : after.halts ≡ before.halts
 
 -- What each turn leaves unchanged at the post: its world, the ranks that it serves, the logs of other ranks, and whether
 -- these have raised the stop. An honest log stays honest, and no count falls.
-pub record KeepsPost {C : Type 0} (me : Rank C) (before after : Told) : Type 0 where
+pub record KeepsPost {C : Type 0} (me : Rank C) (before after : PostState) : Type 0 where
   pub same : SamePost me.here before after
   pub honest : IsHonest (local_of me (before.log me.here)) → IsHonest (local_of me (after.log me.here))
   pub other_stops : (rank : ℕ) → rank ≢ me.here → after.raised rank ≡ before.raised rank

@@ -1,7 +1,7 @@
 //! The weak barrier.
 ghost use Rattle.std.specs.Prelude.{◌≡◌, ◌<◌, ℕ, Err, true, false, length, IfErr, IfOk, OnOk, IsTrue};
 ghost use Rattle.world_core.specs.Modest.{IsWorld};
-ghost use Rattle.world_core.specs.Plain.{is_stopped, told_by};
+ghost use Rattle.world_core.specs.Plain.{is_stopped, state_of};
 ghost use Rattle.world_core.specs.Post.{SameStops, SomeRaised};
 ghost use Rattle.world_core.specs.Rising.{Rose};
 ghost use Rattle.comm_rank.specs.Fault.{GivesIfFull, IfStopped, UnlessStopped};
@@ -31,11 +31,11 @@ fn turn_of<H: Handler>(
     ensures ranks { OnOk result (AreRanks H.apply H.start comms.new links.new) }
     ensures failed { IfErr result (FailedAt H.apply H.start comms.old comms.new links.old links.new) }
     ensures halts { IfErr result (λ fault. IfStopped fault (Rose links.old.halts links.new.halts)) }
-    ensures raised_before { IfErr result (λ fault. IfStopped fault (SomeRaised (told_by links.old))) }
-    ensures sees_the_stop { (other : ℕ) → IsTrue ((told_by links.old).serves other) → (told_by links.old).raised other ≡ true → result ≡ Err Stopped }
+    ensures raised_before { IfErr result (λ fault. IfStopped fault (SomeRaised (state_of links.old))) }
+    ensures sees_the_stop { (other : ℕ) → IsTrue ((state_of links.old).serves other) → (state_of links.old).raised other ≡ true → result ≡ Err Stopped }
     ensures does_nothing_when_halted { IfErr result (λ fault. IfStopped fault (HaltedAt comms.old comms.new links.old links.new)) }
     ensures gave { IfErr result (GivesIfFull H.apply) }
-    ensures stops_stand { OnOk result (SameStops (told_by links.old) (told_by links.new)) }
+    ensures stops_stand { OnOk result (SameStops (state_of links.old) (state_of links.new)) }
     ensures halts_stand { OnOk result (links.new.halts ≡ links.old.halts) }
     ensures halts_stand_unless_stopped { IfErr result (λ fault. UnlessStopped fault (links.new.halts ≡ links.old.halts)) }
     ensures same_ranks { AreSameRanks comms.old comms.new }
@@ -58,11 +58,11 @@ fn round<H: Handler>(comms: &mut [Comm<H>], links: &mut PlainLinks) -> Result<bo
     ensures ranks { OnOk result (AreRanks H.apply H.start comms.new links.new) }
     ensures failed { IfErr result (FailedAt H.apply H.start comms.old comms.new links.old links.new) }
     ensures halts { IfErr result (λ fault. IfStopped fault (Rose links.old.halts links.new.halts)) }
-    ensures raised_before { IfErr result (λ fault. IfStopped fault (SomeRaised (told_by links.old))) }
-    ensures sees_the_stop { (rank : ℕ) → IsTrue ((told_by links.old).serves rank) → (told_by links.old).raised rank ≡ true → result ≡ Err Stopped }
+    ensures raised_before { IfErr result (λ fault. IfStopped fault (SomeRaised (state_of links.old))) }
+    ensures sees_the_stop { (rank : ℕ) → IsTrue ((state_of links.old).serves rank) → (state_of links.old).raised rank ≡ true → result ≡ Err Stopped }
     ensures does_nothing_when_halted { IfErr result (λ fault. IfStopped fault (HaltedAt comms.old comms.new links.old links.new)) }
     ensures gave { IfErr result (GivesIfFull H.apply) }
-    ensures stops_stand { OnOk result (SameStops (told_by links.old) (told_by links.new)) }
+    ensures stops_stand { OnOk result (SameStops (state_of links.old) (state_of links.new)) }
     ensures halts_stand { OnOk result (links.new.halts ≡ links.old.halts) }
     ensures halts_stand_unless_stopped { IfErr result (λ fault. UnlessStopped fault (links.new.halts ≡ links.old.halts)) }
     ensures same_ranks { AreSameRanks comms.old comms.new }
@@ -101,13 +101,13 @@ pub fn settle<H: Handler>(
     ensures ranks { OnOk result (AreRanks H.apply H.start comms.new links.new) }
     ensures sound { IsWorld links.new.world }
     ensures none_lost { NoneLost comms.new links.new }
-    ensures stops_stand { OnOk result (SameStops (told_by links.old) (told_by links.new)) }
+    ensures stops_stand { OnOk result (SameStops (state_of links.old) (state_of links.new)) }
     ensures halts_stand { OnOk result (links.new.halts ≡ links.old.halts) }
     ensures halts_stand_unless_stopped { IfErr result (λ fault. UnlessStopped fault (links.new.halts ≡ links.old.halts)) }
     ensures failed { IfErr result (FailedAt H.apply H.start comms.old comms.new links.old links.new) }
     ensures halts { IfErr result (λ fault. IfStopped fault (Rose links.old.halts links.new.halts)) }
     ensures stopped_before { IfErr result (λ fault. IfStopped fault (is_stopped links.old ≡ true)) }
-    ensures sees_the_stop { (rank : ℕ) → IsTrue ((told_by links.old).serves rank) → (told_by links.old).raised rank ≡ true → result ≡ Err Stopped }
+    ensures sees_the_stop { (rank : ℕ) → IsTrue ((state_of links.old).serves rank) → (state_of links.old).raised rank ≡ true → result ≡ Err Stopped }
     ensures does_nothing_when_halted { IfErr result (λ fault. IfStopped fault (HaltedAt comms.old comms.new links.old links.new)) }
     ensures gave { IfErr result (GivesIfFull H.apply) }
     ensures same_ranks { AreSameRanks comms.old comms.new }

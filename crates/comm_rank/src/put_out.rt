@@ -20,11 +20,11 @@ struct Placed {
 
 /// Puts the first letter that is held for a destination. It returns whether the link wasn't full.
 fn put_first<P: Post>(held: &mut Held, post: &mut P, here: u32, to: u32) -> Result<bool, CommFault>
-    requires may_put { MayPut here held.old.lists (P.told post.old) }
+    requires may_put { MayPut here held.old.lists (P.state post.old) }
     requires within { to < length held.old.lists }
     requires some { 0 < length (held_for held.old.lists to) }
-    ensures put { IfOk result (HasPutFirst here to held.old.lists held.new.lists (P.told post.old) (P.told post.new)) }
-    ensures failed { IfErr result (PutsFailed here held.old.lists held.new.lists (P.told post.old) (P.told post.new)) }
+    ensures put { IfOk result (HasPutFirst here to held.old.lists held.new.lists (P.state post.old) (P.state post.new)) }
+    ensures failed { IfErr result (PutsFailed here held.old.lists held.new.lists (P.state post.old) (P.state post.new)) }
     ensures others { OthersUnchanged to held.old.lists held.new.lists }
     ensures apart { AreApart held.new.lists to }
 {
@@ -46,10 +46,10 @@ fn put_first<P: Post>(held: &mut Held, post: &mut P, here: u32, to: u32) -> Resu
 
 /// Puts what is held for a destination, until nothing remains or the link is full.
 fn put_to<P: Post>(held: &mut Held, post: &mut P, here: u32, to: u32) -> Result<Placed, CommFault>
-    requires may_put { MayPut here held.old.lists (P.told post.old) }
+    requires may_put { MayPut here held.old.lists (P.state post.old) }
     requires within { to < length held.old.lists }
-    ensures put { IfOk result (λ what. HasPutTo here to held.old.lists held.new.lists (P.told post.old) (P.told post.new) what.put what.full) }
-    ensures failed { IfErr result (PutsFailed here held.old.lists held.new.lists (P.told post.old) (P.told post.new)) }
+    ensures put { IfOk result (λ what. HasPutTo here to held.old.lists held.new.lists (P.state post.old) (P.state post.new) what.put what.full) }
+    ensures failed { IfErr result (PutsFailed here held.old.lists held.new.lists (P.state post.old) (P.state post.new)) }
     ensures others { OthersUnchanged to held.old.lists held.new.lists }
 {
     let most = held.batches_for(to);
@@ -75,10 +75,10 @@ fn put_each<P: Post>(
     here: u32,
     ranks: u32,
 ) -> Result<(u64, Option<u32>), CommFault>
-    requires may_put { MayPut here held.old.lists (P.told post.old) }
+    requires may_put { MayPut here held.old.lists (P.state post.old) }
     requires ranks { ranks ≡ length held.old.lists }
-    ensures put { IfOk result (λ what. HasPutEach here ranks held.old.lists held.new.lists (P.told post.old) (P.told post.new) what.0 what.1) }
-    ensures failed { IfErr result (PutsFailed here held.old.lists held.new.lists (P.told post.old) (P.told post.new)) }
+    ensures put { IfOk result (λ what. HasPutEach here ranks held.old.lists held.new.lists (P.state post.old) (P.state post.new) what.0 what.1) }
+    ensures failed { IfErr result (PutsFailed here held.old.lists held.new.lists (P.state post.old) (P.state post.new)) }
 {
     let mut put: u64 = 0;
     let mut full = None;
@@ -96,12 +96,12 @@ impl<H: Handler> Comm<H> {
     /// Puts what the rank holds, destination by destination. It returns how many batches, and the lowest rank
     /// to which the link was full.
     pub(crate) fn put_all<P: Post>(&mut self, post: &mut P) -> Result<(u64, Option<u32>), CommFault>
-        requires belongs { Belongs H.apply H.start self.old (P.told post.old) }
-        ensures put { IfOk result (λ what. HasPutAll self.old self.new (P.told post.old) (P.told post.new) what.0 what.1) }
-        ensures failed { IfErr result (PutAllFailed self.old self.new (P.told post.old) (P.told post.new)) }
-        ensures belongs { Belongs H.apply H.start self.new (P.told post.new) }
-        ensures honest { IsHonest (local_of self.old ((P.told post.old).log self.old.here)) → IsHonest (local_of self.old ((P.told post.new).log self.old.here)) }
-        ensures keeps { MoveKeeps self.old.here (P.told post.old) (P.told post.new) }
+        requires belongs { Belongs H.apply H.start self.old (P.state post.old) }
+        ensures put { IfOk result (λ what. HasPutAll self.old self.new (P.state post.old) (P.state post.new) what.0 what.1) }
+        ensures failed { IfErr result (PutAllFailed self.old self.new (P.state post.old) (P.state post.new)) }
+        ensures belongs { Belongs H.apply H.start self.new (P.state post.new) }
+        ensures honest { IsHonest (local_of self.old ((P.state post.old).log self.old.here)) → IsHonest (local_of self.old ((P.state post.new).log self.old.here)) }
+        ensures keeps { MoveKeeps self.old.here (P.state post.old) (P.state post.new) }
     {
         // No put is a letter too many.
         let within = self.sent.count() <= self.limits.letters;

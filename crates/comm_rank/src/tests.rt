@@ -1,6 +1,6 @@
 ghost use Rattle.std.specs.Prelude.{◌≡◌, ◌<◌, ◌≤◌, ◌++◌, List, [], ◌∷◌, false, IfOk, OnOk, OnErr};
 ghost use Rattle.world_core.specs.declared.entry.Entry.{Entry};
-ghost use Rattle.world_core.specs.Plain.{told_by};
+ghost use Rattle.world_core.specs.Plain.{state_of};
 ghost use Rattle.world_core.specs.Post.{SamePost};
 ghost use Rattle.ygm_route.specs.declared.scheme.Scheme.TheVariants.{Direct};
 ghost use Rattle.comm_rank.specs.Agrees.{Agrees};
@@ -156,7 +156,7 @@ fn turn_of<H: Handler>(
     requires ready { comm.old.stopped ≡ false → IsRankOf H.apply H.start links.old comm.old.here comm.old }
     ensures ready { comm.new.stopped ≡ false → IsRankOf H.apply H.start links.new comm.new.here comm.new }
     ensures here { comm.new.here ≡ comm.old.here }
-    ensures same { SamePost comm.old.here (told_by links.old) (told_by links.new) }
+    ensures same { SamePost comm.old.here (state_of links.old) (state_of links.new) }
 {
     if comm.is_stopped() {
         return Err("a rank that isn't stopped takes a turn".into());

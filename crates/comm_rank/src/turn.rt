@@ -64,13 +64,13 @@ impl<H: Handler> Comm<H> {
     /// that it took and that haven't run wait for ever. After either fault the rank is stopped.
     pub fn turn<P: Post>(&mut self, post: &mut P) -> Result<Turn, CommFault>
         requires going { self.old.stopped ≡ false }
-        requires belongs { Belongs H.apply H.start self.old (P.told post.old) }
-        ensures ended { IfOk result (HasEnded H.apply H.start self.old self.new (P.told post.old) (P.told post.new)) }
-        ensures halted { IfErr result (λ fault. IfStopped fault (HasHalted self.old self.new (P.told post.old) (P.told post.new))) }
-        ensures failed { IfErr result (λ fault. UnlessStopped fault (HasFailed H.apply self.old self.new (P.told post.old) (P.told post.new) fault)) }
-        ensures sees_the_stop { (rank : ℕ) → IsTrue ((P.told post.old).serves rank) → (P.told post.old).raised rank ≡ true → result ≡ Err Stopped }
+        requires belongs { Belongs H.apply H.start self.old (P.state post.old) }
+        ensures ended { IfOk result (HasEnded H.apply H.start self.old self.new (P.state post.old) (P.state post.new)) }
+        ensures halted { IfErr result (λ fault. IfStopped fault (HasHalted self.old self.new (P.state post.old) (P.state post.new))) }
+        ensures failed { IfErr result (λ fault. UnlessStopped fault (HasFailed H.apply self.old self.new (P.state post.old) (P.state post.new) fault)) }
+        ensures sees_the_stop { (rank : ℕ) → IsTrue ((P.state post.old).serves rank) → (P.state post.old).raised rank ≡ true → result ≡ Err Stopped }
         ensures rank { Worked (record self.old { stopped = is_err result }) self.new }
-        ensures post { KeepsPost self.old (P.told post.old) (P.told post.new) }
+        ensures post { KeepsPost self.old (P.state post.old) (P.state post.new) }
     {
         if post.stopped(self.here) {
             self.stopped = true;
@@ -86,11 +86,11 @@ impl<H: Handler> Comm<H> {
 
     /// The turn itself.
     fn work<P: Post>(&mut self, post: &mut P) -> Result<Turn, CommFault>
-        requires belongs { Belongs H.apply H.start self.old (P.told post.old) }
-        ensures ended { IfOk result (HasEnded H.apply H.start self.old self.new (P.told post.old) (P.told post.new)) }
-        ensures cut { IfErr result (WasCut H.apply self.old self.new ((P.told post.old).log self.old.here) ((P.told post.new).log self.old.here)) }
+        requires belongs { Belongs H.apply H.start self.old (P.state post.old) }
+        ensures ended { IfOk result (HasEnded H.apply H.start self.old self.new (P.state post.old) (P.state post.new)) }
+        ensures cut { IfErr result (WasCut H.apply self.old self.new ((P.state post.old).log self.old.here) ((P.state post.new).log self.old.here)) }
         ensures rank { Worked self.old self.new }
-        ensures keeps { WorkKeeps self.old (P.told post.old) (P.told post.new) }
+        ensures keeps { WorkKeeps self.old (P.state post.old) (P.state post.new) }
     {
         let took = self.take_all(post)?;
         let (put, full) = self.put_all(post)?;
@@ -99,11 +99,11 @@ impl<H: Handler> Comm<H> {
 
     /// Takes a batch from each link that isn't empty, and runs its letters. It returns how many it took.
     fn take_all<P: Post>(&mut self, post: &mut P) -> Result<u32, CommFault>
-        requires belongs { Belongs H.apply H.start self.old (P.told post.old) }
-        ensures took { IfOk result (HasTakenAll H.apply H.start self.old self.new (P.told post.old) (P.told post.new)) }
-        ensures cut { IfErr result (WasCut H.apply self.old self.new ((P.told post.old).log self.old.here) ((P.told post.new).log self.old.here)) }
+        requires belongs { Belongs H.apply H.start self.old (P.state post.old) }
+        ensures took { IfOk result (HasTakenAll H.apply H.start self.old self.new (P.state post.old) (P.state post.new)) }
+        ensures cut { IfErr result (WasCut H.apply self.old self.new ((P.state post.old).log self.old.here) ((P.state post.new).log self.old.here)) }
         ensures rank { Worked self.old self.new }
-        ensures keeps { TakesKeep self.old (P.told post.old) (P.told post.new) }
+        ensures keeps { TakesKeep self.old (P.state post.old) (P.state post.new) }
     {
         let mut took = 0;
         for from in 0..self.ranks() {
@@ -114,12 +114,12 @@ impl<H: Handler> Comm<H> {
 
     /// Takes a batch from the link of one rank, if it isn't empty, and runs its letters. It returns how many it took.
     fn take_from<P: Post>(&mut self, post: &mut P, from: u32) -> Result<u32, CommFault>
-        requires belongs { Belongs H.apply H.start self.old (P.told post.old) }
+        requires belongs { Belongs H.apply H.start self.old (P.state post.old) }
         requires sender { from < self.old.layout.ranks }
-        ensures took { IfOk result (HasTakenFrom from H.apply H.start self.old self.new (P.told post.old) (P.told post.new)) }
-        ensures cut { IfErr result (WasCutFrom from H.apply self.old self.new ((P.told post.old).log self.old.here) ((P.told post.new).log self.old.here)) }
+        ensures took { IfOk result (HasTakenFrom from H.apply H.start self.old self.new (P.state post.old) (P.state post.new)) }
+        ensures cut { IfErr result (WasCutFrom from H.apply self.old self.new ((P.state post.old).log self.old.here) ((P.state post.new).log self.old.here)) }
         ensures rank { Worked self.old self.new }
-        ensures keeps { TakesKeep self.old (P.told post.old) (P.told post.new) }
+        ensures keeps { TakesKeep self.old (P.state post.old) (P.state post.new) }
     {
         let Some(batch) = post.take(self.here, from) else {
             return Ok(0);

@@ -10,9 +10,9 @@ use Rattle.list_facts.proofs.Outcomes.{ok_or_err}
 use Rattle.msg_codec.specs.declared.wire.WireFault.{WireFault}
 use Rattle.msg_codec.specs.declared.wire.WireFault.TheVariants.{Short, TooLong, NoMemory}
 use Rattle.msg_codec.specs.Bytes.{AreBytes}
-use Rattle.msg_codec.specs.Laws.{front_4, told_is}
+use Rattle.msg_codec.specs.Laws.{front_4, stated_is}
 use Rattle.msg_codec.specs.Limits.{max_body}
-use Rattle.msg_codec.specs.Reading.{◌>>=◌, number_reading, told, body_reading, pair_reading}
+use Rattle.msg_codec.specs.Reading.{◌>>=◌, number_reading, stated, body_reading, pair_reading}
 use Rattle.msg_codec.specs.Spelling.{spelled_number, spelled_body}
 
 -- ---- short
@@ -23,9 +23,9 @@ number_cut n front back e ne =
     let cut : ltb (length front) 8 ≡ true = lt-ltb _ _ (shorter_part (spelled_number n) front back e ne) in
     rw cut refl
 
-told_front : (front back : List ℕ) → 4 ≤ length front → told (front ++ back) ≡ told front
-unfolding told
-told_front front back long = front_4 (front ++ back) ∙ ap (from_le_bytes w32) (take-append-le 4 front back long) ∙ sym (front_4 front)
+stated_front : (front back : List ℕ) → 4 ≤ length front → stated (front ++ back) ≡ stated front
+unfolding stated
+stated_front front back long = front_4 (front ++ back) ∙ ap (from_le_bytes w32) (take-append-le 4 front back long) ∙ sym (front_4 front)
 
 pub body_cut : (body front back : List ℕ) → length body ≤ max_body → spelled_body body ≡ front ++ back → back ≢ [] → body_reading front ≡ Err Short
 unfolding body_reading
@@ -33,7 +33,7 @@ body_cut body front back short e ne =
     elim (cases_lt (length front) 4) [
       | inl lt ↦ let cut : ltb (length front) 4 ≡ true = lt-ltb _ _ lt in rw cut refl
       | inr le ↦
-          let is : told front ≡ length body = sym (told_front front back le) ∙ ap told (sym e ∙ sym (append-nil (spelled_body body))) ∙ told_is body [] short in
+          let is : stated front ≡ length body = sym (stated_front front back le) ∙ ap stated (sym e ∙ sym (append-nil (spelled_body body))) ∙ stated_is body [] short in
           let four : ltb (length front) 4 ≡ false = le-ltb _ _ le in
           let most : ltb max_body (length body) ≡ false = le-ltb _ _ short in
           let cut : ltb (length (drop 4 front)) (length body) ≡ true = lt-ltb _ _ (omega (arith, length-drop 4 front, shorter_part (spelled_body body) front back e ne)) in
@@ -72,11 +72,11 @@ over_limit false false false y e = absurd cc
 pub body_long : (bytes more : List ℕ) → AreBytes bytes → body_reading bytes ≡ Err TooLong → body_reading (bytes ++ more) ≡ Err TooLong
 unfolding body_reading
 body_long bytes more fit e =
-    let n = told bytes in
+    let n = stated bytes in
     let over = over_limit (ltb (length bytes) 4) (ltb max_body n) (ltb (length (drop 4 bytes)) n) (take n (drop 4 bytes), 4 + n) e in
     let long : 4 ≤ length bytes = ltb-false _ _ over.0 in
     let four : ltb (length (bytes ++ more)) 4 ≡ false = le-ltb _ _ (omega (arith, length-append bytes more)) in
-    rw (four, told_front bytes more long, over.1) refl
+    rw (four, stated_front bytes more long, over.1) refl
 
 bind_err : {A B : Type 0} (r : Result A WireFault) (f : A → Result B WireFault) (d : WireFault) → (r >>= f) ≡ Err d → (r ≡ Err d) ⊎ ((x : A) × (r ≡ Ok x) × (f x ≡ Err d))
 bind_err (Ok x) f d e = inr (x, refl, e)
@@ -147,7 +147,7 @@ body_wants bytes fit e =
     let more = zeros (4 + max_body) in
     let all = bytes ++ more.0 in
     let four : ltb (length all) 4 ≡ false = le-ltb _ _ (omega (arith, more.2, length-append bytes more.0)) in
-    let whole : ltb max_body (told all) ≡ false → ltb (length (drop 4 all)) (told all) ≡ false =
+    let whole : ltb max_body (stated all) ≡ false → ltb (length (drop 4 all)) (stated all) ≡ false =
     λ most. le-ltb _ _ (omega (arith, ltb-false _ _ most, length-drop 4 all, more.2, length-append bytes more.0)) in
     (more.0, more.1, body_whole _ _ _ _ four whole)
 

@@ -11,7 +11,7 @@ use Rattle.msg_codec.specs.declared.wire.WireFault.{WireFault}
 use Rattle.msg_codec.specs.declared.wire.WireFault.TheVariants.{Short, TooLong}
 use Rattle.msg_codec.specs.Bytes.{AreBytes}
 use Rattle.msg_codec.specs.Limits.{max_body}
-use Rattle.msg_codec.specs.Reading.{◌>>=◌, number_reading, told, body_reading, pair_reading, if_whole, whole}
+use Rattle.msg_codec.specs.Reading.{◌>>=◌, number_reading, stated, body_reading, pair_reading, if_whole, whole}
 use Rattle.msg_codec.specs.Spelling.{spelled_number, spelled_body}
 
 -- past the end `get_or` gives 0, which is a byte too
@@ -67,14 +67,14 @@ number_spelled bytes n len fit e =
 
 -- ---- bodies
 
-pub told_is : (body rest : List ℕ) → length body ≤ max_body → told (spelled_body body ++ rest) ≡ length body
-unfolding told
-told_is body rest short = from_le_bytes-to_le_bytes_4 (length body) (omega (arith, short))
+pub stated_is : (body rest : List ℕ) → length body ≤ max_body → stated (spelled_body body ++ rest) ≡ length body
+unfolding stated
+stated_is body rest short = from_le_bytes-to_le_bytes_4 (length body) (omega (arith, short))
 
 pub body_again : (body rest : List ℕ) → length body ≤ max_body → body_reading (spelled_body body ++ rest) ≡ Ok (body, length (spelled_body body))
 unfolding body_reading
 body_again body rest short =
-    let is = told_is body rest short in
+    let is = stated_is body rest short in
     let four : ltb (length (spelled_body body ++ rest)) 4 ≡ false = le-ltb _ _ (omega (arith, length-append (spelled_body body) rest)) in
     let most : ltb max_body (length body) ≡ false = le-ltb _ _ short in
     let whole : ltb (length (body ++ rest)) (length body) ≡ false = le-ltb _ _ (omega (arith, length-append body rest)) in
@@ -83,9 +83,9 @@ body_again body rest short =
 
 pub body_spelled : (bytes body : List ℕ) (len : ℕ) → AreBytes bytes → body_reading bytes ≡ Ok (body, len)
     → ((length body ≤ max_body) × AreBytes body) × (take len bytes ≡ spelled_body body) × (len ≤ length bytes)
-unfolding body_reading told
+unfolding body_reading stated
 body_spelled bytes body len fit e =
-    let n = told bytes in
+    let n = stated bytes in
     let rest = drop 4 bytes in
     let third : Result (List ℕ × ℕ) WireFault = cond (ltb (length rest) n) (Err Short) (Ok (take n rest, 4 + n)) in
     let a = guard_ok (ltb (length bytes) 4) Short (cond (ltb max_body n) (Err TooLong) third) (body, len) e in

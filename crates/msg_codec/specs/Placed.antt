@@ -15,8 +15,8 @@ pub record Fits (l : Letter) : Type 0 where
   pub bytes_fit : AreBytes l.body
 
 -- the length of the body of the letter that the bytes begin with, by its length field
-unfoldable pub told_length : List ℕ → ℕ
-told_length bytes = from_le_bytes w32 (drop 9 bytes)
+unfoldable pub stated_length : List ℕ → ℕ
+stated_length bytes = from_le_bytes w32 (drop 9 bytes)
 
 -- the letter that the bytes begin with
 unfoldable pub first_letter : List ℕ → Letter
@@ -24,7 +24,7 @@ first_letter bytes = record {
   to = from_le_bytes w32 bytes;
   from = from_le_bytes w32 (drop 4 bytes);
   tag = slice_index bytes 8;
-  body = take (told_length bytes) (drop 13 bytes);
+  body = take (stated_length bytes) (drop 13 bytes);
 }
 
 -- the letters that begin at these places of the bytes
@@ -50,5 +50,5 @@ pub record IsBatch (bytes places : List ℕ) : Type 0 where
 -- a whole letter begins at the place
 pub record IsHeld (bytes : List ℕ) (place : ℕ) : Type 0 where
   pub inside : place ≤ length bytes
-  pub short : told_length (drop place bytes) ≤ max_body
-  pub whole : 13 + told_length (drop place bytes) ≤ length (drop place bytes)
+  pub short : stated_length (drop place bytes) ≤ max_body
+  pub whole : 13 + stated_length (drop place bytes) ≤ length (drop place bytes)

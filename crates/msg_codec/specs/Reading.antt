@@ -15,15 +15,15 @@ unfoldable pub number_reading : List ℕ → Result (ℕ × ℕ) WireFault
 number_reading bytes = if nat_lt (length bytes) 8 then Err Short else Ok (from_le_bytes w64 bytes, 8)
 
 -- The length that the first four bytes encode, and then that many bytes.
-unfoldable pub told : List ℕ → ℕ
-told bytes = from_le_bytes w32 bytes
+unfoldable pub stated : List ℕ → ℕ
+stated bytes = from_le_bytes w32 bytes
 
 unfoldable pub body_reading : List ℕ → Result (List ℕ × ℕ) WireFault
 body_reading bytes =
     if nat_lt (length bytes) 4 then Err Short
-    else if nat_lt max_body (told bytes) then Err TooLong
-    else if nat_lt (length (drop 4 bytes)) (told bytes) then Err Short
-    else Ok (take (told bytes) (drop 4 bytes), 4 + told bytes)
+    else if nat_lt max_body (stated bytes) then Err TooLong
+    else if nat_lt (length (drop 4 bytes)) (stated bytes) then Err Short
+    else Ok (take (stated bytes) (drop 4 bytes), 4 + stated bytes)
 
 -- The first value, and then the second from where the first ends.
 unfoldable pub pair_reading : {A B : Type 0} → (List ℕ → Result (A × ℕ) WireFault) → (List ℕ → Result (B × ℕ) WireFault) → List ℕ → Result ((A × B) × ℕ) WireFault

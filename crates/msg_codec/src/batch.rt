@@ -3,7 +3,7 @@ ghost use Rattle.std.specs.Prelude.{All, ◌≡◌, ◌<◌, ◌≤◌, ◌+◌,
 ghost use Rattle.std.specs.Int.{to_le_bytes};
 ghost use Rattle.msg_codec.specs.Letter.{letter_of};
 ghost use Rattle.msg_codec.specs.Limits.{max_body};
-ghost use Rattle.msg_codec.specs.Placed.{told_length, first_letter, Fits, IsHeld};
+ghost use Rattle.msg_codec.specs.Placed.{stated_length, first_letter, Fits, IsHeld};
 ghost use Rattle.msg_codec.specs.Spelling.{header, spelled_letter, spelling};
 
 use crate::LetterRef;
@@ -60,8 +60,8 @@ fn append(bytes: &mut Vec<u8>, letter: &LetterRef<'_>) -> Result<(), AllocError>
 
 /// The letter that the bytes begin with.
 fn read_first(bytes: &[u8]) -> LetterRef<'_>
-    requires short { told_length bytes.now ≤ max_body }
-    requires whole { 13 + told_length bytes.now ≤ length bytes.now }
+    requires short { stated_length bytes.now ≤ max_body }
+    requires whole { 13 + stated_length bytes.now ≤ length bytes.now }
     ensures { letter_of result ≡ first_letter bytes.now }
 {
     let to = u32::from_le_bytes([bytes[0], bytes[1], bytes[2], bytes[3]]);

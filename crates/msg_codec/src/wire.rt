@@ -92,7 +92,7 @@ pub fn number_at(from: &[u8]) -> Result<(u64, usize), WireFault>
 }
 
 /// The bytes of the body that the bytes begin with, and the length of its encoding; or the first fault.
-#[tactic(auto, unfolding(crate::specs::Reading::body_reading, crate::specs::Reading::told))]
+#[tactic(auto, unfolding(crate::specs::Reading::body_reading, crate::specs::Reading::stated))]
 pub fn body_at(from: &[u8]) -> Result<(&[u8], usize), WireFault>
     ensures exact { IsReading (λ found. (found.0.now, found.1)) result (body_reading from.now) }
     ensures front { IfOk result (λ found. take found.1 from.now ≡ spelled_body found.0.now) }

@@ -116,7 +116,7 @@ mod tests {
     }
 
     #[test]
-    fn a_full_counter_is_told_by_its_rank(rt: HostRuntime) -> Result<(), Fail> {
+    fn a_full_counter_is_reported_by_its_rank(rt: HostRuntime) -> Result<(), Fail> {
         let alloc = rt.alloc();
         let at = Counter::new(0).raise(1).err().ok_or("raised")?;
         let full = Status::CountFull { rank: 3, at };

@@ -139,7 +139,7 @@ fn a_job_without_files_is_refused(rt: HostRuntime) -> Result<(), Fail> {
 }
 
 #[test]
-fn a_read_that_fails_is_told_with_its_rank(rt: HostRuntime) -> Result<(), Fail> {
+fn a_read_that_fails_is_reported_with_its_rank(rt: HostRuntime) -> Result<(), Fail> {
     let alloc = rt.alloc();
     let mut files = two_files(alloc, &[0])?;
     let outcome = run_over(alloc, &mut files, &["tally", "f0", "f1"])?;
@@ -266,7 +266,7 @@ fn no_read_is_tried_behind_one_that_failed(rt: HostRuntime) -> Result<(), Fail> 
 }
 
 #[test]
-fn the_fault_of_the_lowest_rank_is_told_and_the_others_read_on(
+fn the_fault_of_the_lowest_rank_is_reported_and_the_others_read_on(
     rt: HostRuntime,
 ) -> Result<(), Fail> {
     let alloc = rt.alloc();

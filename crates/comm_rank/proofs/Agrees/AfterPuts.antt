@@ -12,7 +12,7 @@ use Rattle.world_core.specs.Local.{Local}
 use Rattle.world_core.specs.Log.{batches_taken, letters_of, letters_taken}
 use Rattle.world_core.specs.Modest.{IsLawful, IsModest}
 use Rattle.world_core.specs.Pairs.{arrived, for_rank, of_pair, of_sender, own}
-use Rattle.world_core.specs.Post.{SamePost, Told, local_at}
+use Rattle.world_core.specs.Post.{SamePost, PostState, local_at}
 use Rattle.world_core.specs.Rules.{IsHonest}
 use Rattle.world_core.specs.Sound.{IsOnPath}
 use Rattle.list_facts.proofs.Elements.{all_weaker}
@@ -91,7 +91,7 @@ module _ {C : Type 0} (apply : Applies C) (start : C → C) (me : Rank C) (log :
 
 -- ---- from what puts did to what is held
 
-module _ {C : Type 0} (apply : Applies C) (start : C → C) (me : Rank C) (old : Told) (belongs : Belongs apply start me old) (direct : me.scheme ≡ Direct) where
+module _ {C : Type 0} (apply : Applies C) (start : C → C) (me : Rank C) (old : PostState) (belongs : Belongs apply start me old) (direct : me.scheme ≡ Direct) where
   agrees : Agrees apply start me (old.log me.here)
   agrees = belongs.agrees
 
@@ -107,7 +107,7 @@ module _ {C : Type 0} (apply : Applies C) (start : C → C) (me : Rank C) (old :
         few = omega (arith, few, agrees.sent_count);
       }
 
-  module _ (held : List (List Letter)) (new : Told) (placed : List Entry) (moved : Moved me.here me.held held old new placed) where
+  module _ (held : List (List Letter)) (new : PostState) (placed : List Entry) (moved : Moved me.here me.held held old new placed) where
     put_out : PutOut me (record me { held = held }) (old.log me.here) (new.log me.here) placed
     put_out = record {
       log = moved.log;
@@ -129,7 +129,7 @@ module _ {C : Type 0} (apply : Applies C) (start : C → C) (me : Rank C) (old :
       agrees = agrees_after;
     }
 
-  pub has_put_all : (held : List (List Letter)) (new : Told) (put : ℕ) (full : Option ℕ) (ranks : ℕ) → ranks ≡ me.layout.ranks →
+  pub has_put_all : (held : List (List Letter)) (new : PostState) (put : ℕ) (full : Option ℕ) (ranks : ℕ) → ranks ≡ me.layout.ranks →
       HasPutEach me.here ranks me.held held old new put full → HasPutAll me (record me { held = held }) old new put full
   has_put_all held new put full ranks is p = record {
     placed = p.placed;
@@ -139,20 +139,20 @@ module _ {C : Type 0} (apply : Applies C) (start : C → C) (me : Rank C) (old :
     first_full = subst (λ n. FirstFull n held old new full) is p.first_full;
   }
 
-  pub put_all_failed : (held : List (List Letter)) (new : Told) (fault : CommFault) → PutsFailed me.here me.held held old new fault → PutAllFailed me (record me { held = held }) old new fault
+  pub put_all_failed : (held : List (List Letter)) (new : PostState) (fault : CommFault) → PutsFailed me.here me.held held old new fault → PutAllFailed me (record me { held = held }) old new fault
   put_all_failed held new fault f = record { placed = f.placed; out = put_out held new f.placed f.moved; no_memory = f.no_memory }
 
 -- letters moved, whatever ended the puts
-pub moved_each : (here ranks : ℕ) (before after : List (List Letter)) (old new : Told) (r : Result (ℕ × Option ℕ) CommFault) →
+pub moved_each : (here ranks : ℕ) (before after : List (List Letter)) (old new : PostState) (r : Result (ℕ × Option ℕ) CommFault) →
     IfOk r (λ what. HasPutEach here ranks before after old new what.0 what.1) → IfErr r (PutsFailed here before after old new) → (placed : List Entry) × Moved here before after old new placed
 moved_each here ranks before after old now (Ok what) put failed = (put.placed, put.moved)
 moved_each here ranks before after old now (Err fault) put failed = (failed.placed, failed.moved)
 
 -- a rank that belongs to a post has the log that the post shows
-local_is : {C : Type 0} (apply : Applies C) (start : C → C) (me : Rank C) (post : Told) → Belongs apply start me post → local_at post me.here ≡ local_of me (post.log me.here)
+local_is : {C : Type 0} (apply : Applies C) (start : C → C) (me : Rank C) (post : PostState) → Belongs apply start me post → local_at post me.here ≡ local_of me (post.log me.here)
 local_is apply start me post belongs = (let a = belongs.layout in let b = belongs.scheme in cc)
 
-pub honest_moved : {C : Type 0} (apply : Applies C) (start : C → C) (me : Rank C) (here : ℕ) (old new : Told) → here ≡ me.here → Belongs apply start me old → SamePost here old new →
+pub honest_moved : {C : Type 0} (apply : Applies C) (start : C → C) (me : Rank C) (here : ℕ) (old new : PostState) → here ≡ me.here → Belongs apply start me old → SamePost here old new →
     (IsHonest (local_at old here) → IsHonest (local_at new here)) → IsHonest (local_of me (old.log me.here)) → IsHonest (local_of me (new.log me.here))
 honest_moved {C} apply start me here old new is belongs same keeps h =
     let P : ℕ → Type 0 = λ r. IsHonest (local_at old r) → IsHonest (local_at new r) in

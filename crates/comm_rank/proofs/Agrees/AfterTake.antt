@@ -15,7 +15,7 @@ use Rattle.world_core.specs.Local.{Local, to_forward}
 use Rattle.world_core.specs.Log.{batches_put, batches_taken, letters_taken}
 use Rattle.world_core.specs.Modest.{IsModest}
 use Rattle.world_core.specs.Pairs.{arrived, for_rank, is_of_pair, of_pair, of_sender, own, pair_put}
-use Rattle.world_core.specs.Post.{MissesRise, SamePost, Told, TookBatch, link_in, local_at}
+use Rattle.world_core.specs.Post.{MissesRise, SamePost, PostState, TookBatch, link_in, local_at}
 use Rattle.world_core.specs.Rules.{IsHonest}
 use Rattle.world_core.proofs.Deeds.Honest.{honest_more}
 use Rattle.world_core.proofs.Pairs.Appended.{pair_put-took}
@@ -62,9 +62,9 @@ same_local : (l m : Shape) (s t : Scheme) (h k : ℕ) (log : List Entry) → l �
     (let x : Local = record { layout = l; scheme = s; here = h; log = log } in x) ≡ record { layout = m; scheme = t; here = k; log = log }
 same_local l m s t h k log a b c = cc
 
-pub modest_at : {C : Type 0} (told : Told) (me : Rank C) (layout : Shape) (scheme : Scheme) → told.layout ≡ layout → told.scheme ≡ scheme → layout ≡ me.layout → scheme ≡ me.scheme →
-    IsModest (local_at told me.here) → IsModest (local_of me (told.log me.here))
-modest_at told me layout scheme a b c d h = subst IsModest (same_local _ _ _ _ _ _ (told.log me.here) (a ∙ c) (b ∙ d) refl) h
+pub modest_at : {C : Type 0} (state : PostState) (me : Rank C) (layout : Shape) (scheme : Scheme) → state.layout ≡ layout → state.scheme ≡ scheme → layout ≡ me.layout → scheme ≡ me.scheme →
+    IsModest (local_at state me.here) → IsModest (local_of me (state.log me.here))
+modest_at state me layout scheme a b c d h = subst IsModest (same_local _ _ _ _ _ _ (state.log me.here) (a ∙ c) (b ∙ d) refl) h
 
 pub local_is : {C : Type 0} (old new : Rank C) (log : List Entry) → IsSameRank old new → local_of old log ≡ local_of new log
 local_is old new log same = same_local _ _ _ _ _ _ log (sym same.layout) (sym same.scheme) (sym same.here)
@@ -228,18 +228,18 @@ took_none {C} from apply me log after is none =
 
 -- ---- what the post gave
 
-pub record Arrival {C : Type 0} (old : Rank C) (before told : Told) (from : ℕ) (batch : List Letter) : Type 0 where
-  pub gained : told.log old.here ≡ before.log old.here ++ Took from batch ∷ []
-  pub modest : IsModest (local_of old (told.log old.here))
+pub record Arrival {C : Type 0} (old : Rank C) (before state : PostState) (from : ℕ) (batch : List Letter) : Type 0 where
+  pub gained : state.log old.here ≡ before.log old.here ++ Took from batch ∷ []
+  pub modest : IsModest (local_of old (state.log old.here))
   pub all : AllByRecursion (IsFor old.here) batch
 
-pub arrival : {C : Type 0} (apply : Applies C) (start : C → C) (old : Rank C) (there : ℕ) (before told : Told) (from : ℕ) (batch : List Letter) → there ≡ old.here → SamePost there before told →
-    Belongs apply start old before → old.scheme ≡ Direct → from < old.layout.ranks → TookBatch there from batch before told → Arrival old before told from batch
-arrival {C} apply start old there before told from batch here same belongs direct sender took =
-    let P : ℕ → Type 0 = λ h. told.log h ≡ before.log h ++ Took from batch ∷ [] in
-    let M : ℕ → Type 0 = λ h. IsModest (local_at told h) in
+pub arrival : {C : Type 0} (apply : Applies C) (start : C → C) (old : Rank C) (there : ℕ) (before state : PostState) (from : ℕ) (batch : List Letter) → there ≡ old.here → SamePost there before state →
+    Belongs apply start old before → old.scheme ≡ Direct → from < old.layout.ranks → TookBatch there from batch before state → Arrival old before state from batch
+arrival {C} apply start old there before state from batch here same belongs direct sender took =
+    let P : ℕ → Type 0 = λ h. state.log h ≡ before.log h ++ Took from batch ∷ [] in
+    let M : ℕ → Type 0 = λ h. IsModest (local_at state h) in
     let gained : P old.here = subst P here took.log in
-    let at_old : IsModest (local_of old (told.log old.here)) = modest_at told old before.layout before.scheme same.layout same.scheme belongs.layout belongs.scheme (subst M here took.modest) in
+    let at_old : IsModest (local_of old (state.log old.here)) = modest_at state old before.layout before.scheme same.layout same.scheme belongs.layout belongs.scheme (subst M here took.modest) in
     let N : List Entry → Type 0 = λ xs. IsModest (local_of old xs) in
     record {
       gained = gained;
@@ -247,10 +247,10 @@ arrival {C} apply start old there before told from batch here same belongs direc
       all = batch_for (local_of old (before.log old.here)) from batch (omega (arith, sender)) direct (subst N gained at_old);
     }
 
-pub few_run : {C : Type 0} (apply : Applies C) (start : C → C) (old : Rank C) (before told : Told) (from : ℕ) (batch : List Letter) → Arrival old before told from batch →
+pub few_run : {C : Type 0} (apply : Applies C) (start : C → C) (old : Rank C) (before state : PostState) (from : ℕ) (batch : List Letter) → Arrival old before state from batch →
     Agrees apply start old (before.log old.here) → old.run_count + length batch ≤ most_arrived
-few_run apply start old before told from batch a agrees =
-    let there : arrived old.here (told.log old.here) ≡ arrived old.here (before.log old.here) ++ batch =
+few_run apply start old before state from batch a agrees =
+    let there : arrived old.here (state.log old.here) ≡ arrived old.here (before.log old.here) ++ batch =
     ap (arrived old.here) a.gained ∙ arrived-took old.here (before.log old.here) from batch ∙ ap (λ xs. arrived old.here (before.log old.here) ++ xs) (for_all old.here batch a.all) in
     omega (arith, agrees.run_count, ap length (ran_all old (before.log old.here) agrees.nothing_waits), ap length there, length-append (arrived old.here (before.log old.here)) batch, a.modest.few)
 
@@ -276,7 +276,7 @@ honest_on me old log after same keeps h =
 
 -- ---- the links of the others
 
-pub link_unchanged : (here from other : ℕ) (batch : List Letter) (old new : Told) → new.log here ≡ old.log here ++ Took from batch ∷ [] → other ≢ from → SamePost here old new → link_in new other here ≡ link_in old other here
+pub link_unchanged : (here from other : ℕ) (batch : List Letter) (old new : PostState) → new.log here ≡ old.log here ++ Took from batch ∷ [] → other ≢ from → SamePost here old new → link_in new other here ≡ link_in old other here
 link_unchanged here from other batch old new gained ne same =
     let taken : batches_taken other (new.log here) ≡ batches_taken other (old.log here) = taken_other from other batch (old.log here) (new.log here) gained ne in
     let put : batches_put here (new.log other) ≡ batches_put here (old.log other) = elim (cases_eq other here) [
@@ -287,10 +287,10 @@ link_unchanged here from other batch old new gained ne same =
     ] in
     ap (λ bs. drop (length bs) (batches_put here (new.log other))) taken ∙ ap (λ bs. drop (length (batches_taken other (old.log here))) bs) put
 
-pub same_log : (was here : ℕ) (old new : Told) → was ≡ here → SamePost was old new → SamePost here old new
+pub same_log : (was here : ℕ) (old new : PostState) → was ≡ here → SamePost was old new → SamePost here old new
 same_log was here old new e same = subst (λ h. SamePost h old new) e same
 
-pub not_looked_none : (was here other : ℕ) (old new : Told) → was ≡ here → new.log was ≡ old.log was → SamePost was old new → new.misses other ≡ old.misses other → NotLookedAt here other old new
+pub not_looked_none : (was here other : ℕ) (old new : PostState) → was ≡ here → new.log was ≡ old.log was → SamePost was old new → new.misses other ≡ old.misses other → NotLookedAt here other old new
 not_looked_none was here other old new e log same misses =
     let P : ℕ → Type 0 = λ h. new.log h ≡ old.log h in
     let now : P here = subst P e log in
@@ -305,7 +305,7 @@ not_looked_none was here other old new e log same misses =
       link = ap (λ log. drop (length (batches_taken other log)) (batches_put here (new.log other))) now ∙ ap (λ log. drop (length (batches_taken other (old.log here))) (batches_put here log)) put;
     }
 
-pub looked_none : (was here from : ℕ) (old new : Told) → was ≡ here → MissesRise from old new → (IsTrue (old.serves from) → link_in old from was ≡ []) → LookedAt here from old new
+pub looked_none : (was here from : ℕ) (old new : PostState) → was ≡ here → MissesRise from old new → (IsTrue (old.serves from) → link_in old from was ≡ []) → LookedAt here from old new
 looked_none was here from old new e misses none =
     let P : ℕ → Type 0 = λ h. link_in old from h ≡ [] in
     inr (misses.rose, λ s. subst P e (none s))

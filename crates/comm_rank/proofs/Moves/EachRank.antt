@@ -7,7 +7,7 @@ use Rattle.std.proofs.lemmas.List.Elements.{filter_map-append}
 use Rattle.msg_codec.specs.declared.letter.Letter.{Letter}
 use Rattle.world_core.specs.declared.entry.Entry.{Entry}
 use Rattle.world_core.specs.Log.{batches_put, batches_taken, put_to}
-use Rattle.world_core.specs.Post.{SameFulls, Told, is_full_in, link_in}
+use Rattle.world_core.specs.Post.{SameFulls, PostState, is_full_in, link_in}
 use Rattle.comm_rank.specs.Moves.{Moved, PutUntil}
 use Rattle.comm_rank.specs.Store.{OthersUnchanged}
 use Rattle.comm_rank.specs.Turns.{FirstFull, NoneOrFull}
@@ -25,7 +25,7 @@ fuller ring batches ring' batches' n n' m m' r b long more h = by_test (nat_le r
     by_test true e h = let le : ring ≤ n = leb-true _ _ e in let yes : nat_le ring' n' ≡ true = le-leb _ _ (omega arith) in rw yes refl
     by_test false e h = let le : batches ≤ m = leb-true _ _ h in let yes : nat_le batches' m' ≡ true = le-leb _ _ (omega arith) in rw yes (right (nat_le ring' n'))
 
-pub full_still : (here to : ℕ) (a b : List (List Letter)) (old new : Told) (placed : List Entry) → Moved here a b old new placed → IsTrue (is_full_in old here to) → IsTrue (is_full_in new here to)
+pub full_still : (here to : ℕ) (a b : List (List Letter)) (old new : PostState) (placed : List Entry) → Moved here a b old new placed → IsTrue (is_full_in old here to) → IsTrue (is_full_in new here to)
 full_still here to a b old new placed m full =
     let ring : new.ring ≡ old.ring = m.keeps.same.ring in
     let batches : new.batches ≡ old.batches = m.keeps.same.batches in
@@ -52,7 +52,7 @@ abbrev pub Below : ℕ → Option ℕ → Type 0
 Below n None = Unit {0}
 Below n (Some rank) = rank < n
 
-module _ (here to : ℕ) (a b : List (List Letter)) (old mid new : Told) (placed : List Entry) (serves : (rank : ℕ) → mid.serves rank ≡ old.serves rank)
+module _ (here to : ℕ) (a b : List (List Letter)) (old mid new : PostState) (placed : List Entry) (serves : (rank : ℕ) → mid.serves rank ≡ old.serves rank)
     (moved : Moved here a b mid new placed) (others : OthersUnchanged to a b) (later : (d : ℕ) → to ≤ d → mid.fulls d ≡ old.fulls d) where
   -- the counts of the other ranks are unchanged
   pub other_fulls : (full : Bool) → PutUntil full here to b mid new → (d : ℕ) → d ≢ to → new.fulls d ≡ mid.fulls d

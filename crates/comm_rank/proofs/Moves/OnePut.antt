@@ -14,7 +14,7 @@ use Rattle.world_core.specs.Limits.{most_letters}
 use Rattle.world_core.specs.Local.{Local, having_put}
 use Rattle.world_core.specs.Log.{letters_of}
 use Rattle.world_core.specs.Pairs.{is_data, is_of_pair, of_pair, of_sender, own, pair_put, sent}
-use Rattle.world_core.specs.Post.{CountsNeverFall, FullsRise, IfFull, IfNoMemory, PutKeeps, SameFulls, SamePost, Told, local_at}
+use Rattle.world_core.specs.Post.{CountsNeverFall, FullsRise, IfFull, IfNoMemory, PutKeeps, SameFulls, SamePost, PostState, local_at}
 use Rattle.world_core.specs.declared.post.PutBack.{PutBack}
 use Rattle.world_core.specs.declared.post.PutBack.TheVariants.{Full, NoMemory}
 use Rattle.world_core.specs.Rising.{Rose}
@@ -83,26 +83,26 @@ own_letter here before after l alone loses tagged =
 one_of_sender : (here : ℕ) (l : Letter) → IsTrue (is_data l) → l.from ≡ here → of_sender here (l ∷ []) ≡ l ∷ []
 one_of_sender here l tagged is_from = let e : nat_eq l.from here ≡ true = eq-eqb _ _ is_from in rw (tagged, e) refl
 
-pub may_put_one : (here to n : ℕ) (before after : List (List Letter)) (told : Told) (batch : List Letter) → MayPut here before told → to < length before → n ≡ length before →
-    (l : Letter) × (batch ≡ l ∷ []) × IsHeldFor n to l → Loses before after batch → first_broken (local_at told here) (Puts to batch) ≡ None
-may_put_one here to n before after told batch may within all one loses =
+pub may_put_one : (here to n : ℕ) (before after : List (List Letter)) (state : PostState) (batch : List Letter) → MayPut here before state → to < length before → n ≡ length before →
+    (l : Letter) × (batch ≡ l ∷ []) × IsHeldFor n to l → Loses before after batch → first_broken (local_at state here) (Puts to batch) ≡ None
+may_put_one here to n before after state batch may within all one loses =
     let l = one.0 in
     let lost : Loses before after (l ∷ []) = subst (Loses before after) one.1 loses in
     let is_from : l.from ≡ here = own_letter here before after l may.own_alone lost one.2.tag in
     let count : length (of_sender here (letters_of before)) ≡ 1 + length (of_sender here (letters_of after)) =
     lost.senders here ∙ ap (λ xs. length xs + length (of_sender here (letters_of after))) (one_of_sender here l one.2.tag is_from) in
-    let P : List Letter → Type 0 = λ b. first_broken (local_at told here) (Puts to b) ≡ None in
-    subst P (sym one.1) (unbroken_put (local_at told here) to l may.within (omega (arith, may.all)) may.direct one.2.destination is_from one.2.tag (omega (arith, may.few)))
+    let P : List Letter → Type 0 = λ b. first_broken (local_at state here) (Puts to b) ≡ None in
+    subst P (sym one.1) (unbroken_put (local_at state here) to l may.within (omega (arith, may.all)) may.direct one.2.destination is_from one.2.tag (omega (arith, may.few)))
 
 -- ---- what moves
 
-pub move_keeps : (here : ℕ) (old new : Told) → PutKeeps here old new → CountsNeverFall old new → MoveKeeps here old new
+pub move_keeps : (here : ℕ) (old new : PostState) → PutKeeps here old new → CountsNeverFall old new → MoveKeeps here old new
 move_keeps here old new keeps counts = record { same = keeps.same; stops = keeps.stops; misses = keeps.misses; halts = keeps.halts; counts = counts }
 
 same_put : (a b : ℕ) (x y : List Letter) → (let e : Entry = Put a x in e) ≡ Put b y → (b ≡ a) × (y ≡ x)
 same_put a b x y h = (cc, cc)
 
-pub honest_put : (here to : ℕ) (batch : List Letter) (old new : Told) → SamePost here old new → new.log here ≡ old.log here ++ Put to batch ∷ [] →
+pub honest_put : (here to : ℕ) (batch : List Letter) (old new : PostState) → SamePost here old new → new.log here ≡ old.log here ++ Put to batch ∷ [] →
     first_broken (local_at old here) (Puts to batch) ≡ None → IsHonest (local_at old here) → IsHonest (local_at new here)
 honest_put here to batch old new same log ok honest =
     let more : IsHonest (record (local_at old here) { log = old.log here ++ Put to batch ∷ [] }) =
@@ -113,7 +113,7 @@ honest_put here to batch old new same log ok honest =
     let now : local_at new here ≡ record (local_at old here) { log = old.log here ++ Put to batch ∷ [] } = (let a = same.layout in let b = same.scheme in cc) in
     subst IsHonest (sym now) more
 
-pub moved_one : (here to : ℕ) (batch : List Letter) (before after : List (List Letter)) (old new : Told) → first_broken (local_at old here) (Puts to batch) ≡ None →
+pub moved_one : (here to : ℕ) (batch : List Letter) (before after : List (List Letter)) (old new : PostState) → first_broken (local_at old here) (Puts to batch) ≡ None →
     Loses before after batch → length after ≡ length before → new.log here ≡ old.log here ++ Put to batch ∷ [] → MoveKeeps here old new →
     Moved here before after old new (Put to batch ∷ [])
 moved_one here to batch before after old new ok loses all log keeps =
@@ -138,7 +138,7 @@ moved_one here to batch before after old new ok loses all log keeps =
     rest_none [] ys h = h
     rest_none (x ∷ xs) ys h = absurd cc
 
-pub moved_none : (here : ℕ) (before after : List (List Letter)) (old new : Told) → after ≡ before → new.log here ≡ old.log here → MoveKeeps here old new →
+pub moved_none : (here : ℕ) (before after : List (List Letter)) (old new : PostState) → after ≡ before → new.log here ≡ old.log here → MoveKeeps here old new →
     Moved here before after old new []
 moved_none here before after old new held log keeps = record {
   log = log ∙ sym (append-nil _);
@@ -160,7 +160,7 @@ given_back to old mid now rest batch back popped first same again =
 
 -- ---- one after another
 
-pub keeps_then : (here : ℕ) (a b c : Told) → MoveKeeps here a b → MoveKeeps here b c → MoveKeeps here a c
+pub keeps_then : (here : ℕ) (a b c : PostState) → MoveKeeps here a b → MoveKeeps here b c → MoveKeeps here a c
 keeps_then here a b c first later = record {
   same = same_then here here a b c refl first.same later.same;
   stops = λ rank. later.stops rank ∙ first.stops rank;
@@ -169,7 +169,7 @@ keeps_then here a b c first later = record {
   counts = never_fall_trans a b c first.counts later.counts;
 }
 
-pub moved_then : (here : ℕ) (a b c : List (List Letter)) (t u v : Told) (first later : List Entry) → Moved here a b t u first → Moved here b c u v later → Moved here a c t v (first ++ later)
+pub moved_then : (here : ℕ) (a b c : List (List Letter)) (t u v : PostState) (first later : List Entry) → Moved here a b t u first → Moved here b c u v later → Moved here a c t v (first ++ later)
 moved_then here a b c t u v first later m n = record {
   log = n.log ∙ ap (λ xs. xs ++ later) m.log ∙ append_assoc (t.log here) first later;
   puts = all_append IsPut first later m.puts n.puts;
@@ -181,7 +181,7 @@ moved_then here a b c t u v first later m n = record {
   keeps = keeps_then here t u v m.keeps n.keeps;
 }
 
-pub keeps_none : (here : ℕ) (t : Told) → MoveKeeps here t t
+pub keeps_none : (here : ℕ) (t : PostState) → MoveKeeps here t t
 keeps_none here t = record {
   same = record { layout = refl; scheme = refl; ring = refl; batches = refl; serves = λ rank. refl; other_logs = λ rank other. refl };
   stops = λ rank. refl;
@@ -198,7 +198,7 @@ pub count_of_one : (b : Bool) → b ≡ true → put_count b ≡ 1
 count_of_one true h = refl
 count_of_one false h = absurd cc
 
-pub puts_one : (b : Bool) (here to : ℕ) (before after : List (List Letter)) (old new : Told) → b ≡ true → PutsOne b here to before after old new →
+pub puts_one : (b : Bool) (here to : ℕ) (before after : List (List Letter)) (old new : PostState) → b ≡ true → PutsOne b here to before after old new →
     (length (held_for before to) ≡ length (held_for after to) + 1) × SameFulls old new
 puts_one true here to before after old new h k = k
 puts_one false here to before after old new h k = absurd cc
@@ -215,7 +215,7 @@ pub had_no_memory : {P : Type 0} (back : PutBack) (batch : List Letter) → back
 had_no_memory {P} back batch is h = let Q : PutBack → Type 0 = λ b. IfNoMemory (Err b) P in subst Q is h
 
 -- no link was found full before this one
-pub found_full_at_last : (b : Bool) (here to : ℕ) (before after : List (List Letter)) (old mid new : Told) → b ≡ false → ((rank : ℕ) → mid.serves rank ≡ old.serves rank) → SameFulls old mid →
+pub found_full_at_last : (b : Bool) (here to : ℕ) (before after : List (List Letter)) (old mid new : PostState) → b ≡ false → ((rank : ℕ) → mid.serves rank ≡ old.serves rank) → SameFulls old mid →
     PutsOne b here to before after mid new → MetFull here to after old new × FullsRise to old new
 found_full_at_last true here to before after old mid new is serves fulls one = absurd cc
 found_full_at_last false here to before after old mid new is serves fulls one = (

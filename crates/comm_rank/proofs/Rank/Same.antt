@@ -1,6 +1,6 @@
 -- What calls leave unchanged of a rank, and of a post.
 use Rattle.std.proofs.Common.{◌≡◌, ℕ, Bool, refl, sym, ap, ◌∙◌, subst}
-use Rattle.world_core.specs.Post.{SamePost, Told}
+use Rattle.world_core.specs.Post.{SamePost, PostState}
 use Rattle.comm_rank.specs.Agrees.{Agrees, Belongs}
 use Rattle.comm_rank.specs.Fold.{Applies}
 use Rattle.comm_rank.specs.Rank.{IsSameRank, Rank, Worked}
@@ -41,10 +41,10 @@ worked_then {C} a b c first second =
 
 -- ---- a post
 
-pub same_none : (here : ℕ) (a : Told) → SamePost here a a
+pub same_none : (here : ℕ) (a : PostState) → SamePost here a a
 same_none here a = record { layout = refl; scheme = refl; ring = refl; batches = refl; serves = λ rank. refl; other_logs = λ rank ne. refl }
 
-pub same_then : (here there : ℕ) (a b c : Told) → there ≡ here → SamePost here a b → SamePost there b c → SamePost here a c
+pub same_then : (here there : ℕ) (a b c : PostState) → there ≡ here → SamePost here a b → SamePost there b c → SamePost here a c
 same_then here there a b c e first second = record {
   layout = second.layout ∙ first.layout;
   scheme = second.scheme ∙ first.scheme;
@@ -55,7 +55,7 @@ same_then here there a b c e first second = record {
 }
 
 -- a rank still belongs to the post where its log there is unchanged
-pub belongs_still : {C : Type 0} (apply : Applies C) (start : C → C) (me : Rank C) (here : ℕ) (a b : Told) → SamePost here a b → b.log me.here ≡ a.log me.here →
+pub belongs_still : {C : Type 0} (apply : Applies C) (start : C → C) (me : Rank C) (here : ℕ) (a b : PostState) → SamePost here a b → b.log me.here ≡ a.log me.here →
     Belongs apply start me a → Belongs apply start me b
 belongs_still apply start me here a b same log belongs = record {
   serves = same.serves me.here ∙ belongs.serves;

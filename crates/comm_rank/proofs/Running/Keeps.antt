@@ -1,6 +1,6 @@
 -- What work leaves unchanged at the post.
 use Rattle.std.proofs.Common.{refl, ◌∙◌}
-use Rattle.world_core.specs.Post.{Told}
+use Rattle.world_core.specs.Post.{PostState}
 use Rattle.world_core.specs.Rules.{IsHonest}
 use Rattle.world_core.proofs.Posts.CountsNeverFall.{never_fall_refl, never_fall_trans}
 use Rattle.comm_rank.specs.Moves.{MoveKeeps}
@@ -9,7 +9,7 @@ use Rattle.comm_rank.specs.Running.{TakesKeep, WorkKeeps}
 use Rattle.comm_rank.proofs.Rank.Same.{same_none, same_then}
 use Rattle.comm_rank.proofs.Agrees.AfterTake.{honest_on}
 
-module _ {C : Type 0} (old mid : Rank C) (same : IsSameRank old mid) (a b c : Told) where
+module _ {C : Type 0} (old mid : Rank C) (same : IsSameRank old mid) (a b c : PostState) where
   pub work_then : WorkKeeps old a b → WorkKeeps mid b c → WorkKeeps old a c
   work_then first second = record {
     same = same_then old.here mid.here a b c same.here first.same second.same;
@@ -35,7 +35,7 @@ module _ {C : Type 0} (old mid : Rank C) (same : IsSameRank old mid) (a b c : To
     counts = second.counts;
   })
 
-pub takes_none : {C : Type 0} (me : Rank C) (a : Told) → TakesKeep me a a
+pub takes_none : {C : Type 0} (me : Rank C) (a : PostState) → TakesKeep me a a
 takes_none me a = record {
   work = record { same = same_none me.here a; honest = λ h. h; stops = λ rank. refl; halts = refl; counts = never_fall_refl a };
   fulls = λ rank. refl;

@@ -4,7 +4,7 @@ use Rattle.std.specs.List.{AllByRecursion}
 use Rattle.msg_codec.specs.declared.letter.Letter.{Letter}
 use Rattle.ygm_route.specs.declared.scheme.Scheme.TheVariants.{Direct}
 use Rattle.world_core.specs.Limits.{most_arrived}
-use Rattle.world_core.specs.Post.{CountsNeverFall, TakeKeeps, Told, TookBatch, TookNone}
+use Rattle.world_core.specs.Post.{CountsNeverFall, TakeKeeps, PostState, TookBatch, TookNone}
 use Rattle.world_core.specs.Rules.{IsHonest}
 use Rattle.world_core.proofs.Posts.CountsNeverFall.{after_took, after_took_none}
 use Rattle.comm_rank.specs.declared.fault.CommFault.{CommFault}
@@ -15,7 +15,7 @@ use Rattle.comm_rank.specs.Running.{HasRunAll, HasTakenFrom, IsFor, StuckIn, Tak
 use Rattle.comm_rank.proofs.Rank.Same.{belongs_still}
 use Rattle.comm_rank.proofs.Agrees.AfterTake.{Arrival, agrees_now, arrival, cut_from, few_run, honest_took, link_unchanged, looked_none, not_looked_none, same_log, taken_here, taken_other, took_from, took_none}
 
-module _ {C : Type 0} (apply : Applies C) (start : C → C) (old : Rank C) (there from : ℕ) (before after : Told) (e : there ≡ old.here) (belongs : Belongs apply start old before) (keeps : TakeKeeps there before after) where
+module _ {C : Type 0} (apply : Applies C) (start : C → C) (old : Rank C) (there from : ℕ) (before after : PostState) (e : there ≡ old.here) (belongs : Belongs apply start old before) (keeps : TakeKeeps there before after) where
   takes_keep : CountsNeverFall before after → (IsHonest (local_of old (before.log old.here)) → IsHonest (local_of old (after.log old.here))) → TakesKeep old before after
   takes_keep counts honest = record {
     work = record { same = same_log there old.here before after e keeps.same; honest = honest; stops = keeps.stops; halts = keeps.halts; counts = counts };

@@ -9,7 +9,7 @@ use Rattle.msg_codec.specs.declared.letter.Letter.{Letter}
 use Rattle.world_core.specs.declared.entry.Entry.{Entry}
 use Rattle.world_core.specs.Log.{batches_taken, letters_taken, letters_taken_by}
 use Rattle.world_core.specs.Pairs.{for_rank, is_of_pair, of_pair}
-use Rattle.world_core.specs.Post.{Told}
+use Rattle.world_core.specs.Post.{PostState}
 use Rattle.world_core.specs.Rising.{Rose}
 use Rattle.list_facts.proofs.Elements.{all_append, all_weaker, all_at}
 use Rattle.comm_rank.specs.Fold.{Applies}
@@ -152,32 +152,32 @@ took_nothing apply me log bound none = record {
 -- ---- at the post
 
 -- what comes later takes nothing from the rank and counts no miss there, as puts do
-pub looked_unchanged : (here from : ℕ) (a b c : Told) → LookedAt here from a b → batches_taken from (c.log here) ≡ batches_taken from (b.log here) → c.misses from ≡ b.misses from → LookedAt here from a c
+pub looked_unchanged : (here from : ℕ) (a b c : PostState) → LookedAt here from a b → batches_taken from (c.log here) ≡ batches_taken from (b.log here) → c.misses from ≡ b.misses from → LookedAt here from a c
 looked_unchanged here from a b c looked taken misses = elim looked [
   | inl took ↦ inl (ap length taken ∙ took)
   | inr missed ↦ inr (subst (Rose (a.misses from)) (sym misses) missed.0, missed.1)
 ]
 
-pub looked_later : (here from : ℕ) (a b c : Told) → LookedAt here from a b → NotLookedAt here from b c → LookedAt here from a c
+pub looked_later : (here from : ℕ) (a b c : PostState) → LookedAt here from a b → NotLookedAt here from b c → LookedAt here from a c
 looked_later here from a b c looked not = looked_unchanged here from a b c looked not.taken not.misses
 
-pub looked_first : (here from : ℕ) (a b c : Told) → NotLookedAt here from a b → LookedAt here from b c → LookedAt here from a c
+pub looked_first : (here from : ℕ) (a b c : PostState) → NotLookedAt here from a b → LookedAt here from b c → LookedAt here from a c
 looked_first here from a b c not looked = elim looked [
   | inl took ↦ inl (took ∙ ap (λ xs. length xs + 1) not.taken)
   | inr missed ↦ inr (subst (λ m. Rose m (c.misses from)) not.misses missed.0, λ serves. sym not.link ∙ missed.1 (not.serves ∙ serves))
 ]
 
-pub not_looked_more : (here from : ℕ) (a b c : Told) → NotLookedAt here from a b → NotLookedAt here from b c → NotLookedAt here from a c
+pub not_looked_more : (here from : ℕ) (a b c : PostState) → NotLookedAt here from a b → NotLookedAt here from b c → NotLookedAt here from a c
 not_looked_more here from a b c first second = record { taken = second.taken ∙ first.taken; misses = second.misses ∙ first.misses; serves = second.serves ∙ first.serves; link = second.link ∙ first.link }
 
-pub looked_below : (here there from : ℕ) (a b c : Told) → there ≡ here → ((k : ℕ) → k < from → LookedAt here k a b) → ((k : ℕ) → from ≤ k → NotLookedAt here k a b) →
+pub looked_below : (here there from : ℕ) (a b c : PostState) → there ≡ here → ((k : ℕ) → k < from → LookedAt here k a b) → ((k : ℕ) → from ≤ k → NotLookedAt here k a b) →
     LookedAt there from b c → ((k : ℕ) → k ≢ from → NotLookedAt there k b c) → (k : ℕ) → k < from + 1 → LookedAt here k a c
 looked_below here there from a b c e looked not now others k within = elim (cases_eq k from) [
   | inl f ↦ subst (λ m. LookedAt here m a c) (sym f) (looked_first here from a b c (not from (omega arith)) (subst (λ h. LookedAt h from b c) e now))
   | inr ne ↦ looked_later here k a b c (looked k (omega (arith, within))) (subst (λ h. NotLookedAt h k b c) e (others k ne))
 ]
 
-pub not_looked_above : (here there from : ℕ) (a b c : Told) → there ≡ here → ((k : ℕ) → from ≤ k → NotLookedAt here k a b) →
+pub not_looked_above : (here there from : ℕ) (a b c : PostState) → there ≡ here → ((k : ℕ) → from ≤ k → NotLookedAt here k a b) →
     ((k : ℕ) → k ≢ from → NotLookedAt there k b c) → (k : ℕ) → from + 1 ≤ k → NotLookedAt here k a c
 not_looked_above here there from a b c e not others k past =
     not_looked_more here k a b c (not k (omega (arith, past))) (subst (λ h. NotLookedAt h k b c) e (others k (λ f. absurd (omega (arith, past)))))

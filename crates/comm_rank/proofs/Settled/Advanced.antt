@@ -4,7 +4,7 @@ use Rattle.std.proofs.lemmas.Option.{same_Some}
 use Rattle.list_facts.proofs.Places.{same_item, item_there}
 use Rattle.world_core.specs.declared.entry.Entry.{Entry}
 use Rattle.world_core.specs.Pairs.{for_rank}
-use Rattle.world_core.specs.Plain.{Plain, told_by}
+use Rattle.world_core.specs.Plain.{Plain, state_of}
 use Rattle.world_core.specs.Post.{SameStops}
 use Rattle.world_core.specs.World.{log_of}
 use Rattle.list_facts.proofs.Prefix.{prefix_trans}
@@ -64,7 +64,7 @@ module _ {C : Type 0} (apply : Applies C) where
         let two = second mid after there f in
         (one.0 ++ two.0, advanced_more apply before mid after (log_of x.world rank) (log_of y.world rank) (log_of z.world rank) (same rank before mid e there) one.0 two.0 one.1 two.1)
 
-    pub failed_later : (start : C → C) → SameStops (told_by x) (told_by y) → ((rank : ℕ) → HasAdvanced apply a b x y rank) →
+    pub failed_later : (start : C → C) → SameStops (state_of x) (state_of y) → ((rank : ℕ) → HasAdvanced apply a b x y rank) →
         (fault : CommFault) → FailedAt apply start b c y z fault → FailedAt apply start a c x z fault
     failed_later start stops first fault failed = record {
       rank = failed.rank;

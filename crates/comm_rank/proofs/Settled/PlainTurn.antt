@@ -7,7 +7,7 @@ use Rattle.std.proofs.lemmas.List.{get_or-set_same}
 use Rattle.std.proofs.lemmas.Option.{slice_get-get_or}
 use Rattle.ygm_route.specs.declared.scheme.Scheme.TheVariants.{Direct}
 use Rattle.world_core.specs.Local.{is_rank}
-use Rattle.world_core.specs.Plain.{Plain, told_by}
+use Rattle.world_core.specs.Plain.{Plain, state_of}
 use Rattle.world_core.specs.Post.{SamePost}
 use Rattle.world_core.specs.declared.entry.Entry.{Entry}
 use Rattle.list_facts.specs.Prefix.{IsPrefix}
@@ -46,11 +46,11 @@ module _ {C : Type 0} (apply : Applies C) (start : C → C) (comms : List (Rank 
   agrees_here : Agrees apply start (get_or comms rank read) (log_of links.world (get_or comms rank read).here)
   agrees_here = let P : ℕ → Type 0 = λ h. Agrees apply start (get_or comms rank read) (log_of links.world h) in subst P (sym mine.here) mine.agrees
 
-  pub belongs_here : Belongs apply start (get_or comms rank read) (told_by links)
+  pub belongs_here : Belongs apply start (get_or comms rank read) (state_of links)
   belongs_here = record { serves = serves; layout = sym mine.layout; scheme = sym mine.scheme; agrees = agrees_here }
 
 pub turn_at : {C : Type 0} (apply : Applies C) (start : C → C) (me now : Rank C) (old new : Plain) (turn : Turn) (rank : ℕ) → me.here ≡ rank → IsSameRank me now →
-    HasEnded apply start me now (told_by old) (told_by new) turn → SamePost me.here (told_by old) (told_by new) → TurnAt apply start me now old new turn rank
+    HasEnded apply start me now (state_of old) (state_of new) turn → SamePost me.here (state_of old) (state_of new) → TurnAt apply start me now old new turn rank
 turn_at apply start me now old new turn rank here same_rank ended same =
     let P : ℕ → Type 0 = λ h. Agrees apply start now (log_of new.world h) in
     let there : TurnAt apply start me now old new turn me.here = record {
@@ -77,16 +77,16 @@ module _ {C : Type 0} (apply : Applies C) (start : C → C) (me now : Rank C) (o
   grew : CutOff apply me now Before After → IsPrefix Before After
   grew cut = longer Before After cut.taken cut.placed cut.gained
 
-  grows : (r : Result Turn CommFault) → IfOk r (HasEnded apply start me now (told_by old) (told_by new)) → IfErr r (λ fault. IfStopped fault (HasHalted me now (told_by old) (told_by new))) →
-      IfErr r (λ fault. UnlessStopped fault (HasFailed apply me now (told_by old) (told_by new) fault)) → IsPrefix Before After
+  grows : (r : Result Turn CommFault) → IfOk r (HasEnded apply start me now (state_of old) (state_of new)) → IfErr r (λ fault. IfStopped fault (HasHalted me now (state_of old) (state_of new))) →
+      IfErr r (λ fault. UnlessStopped fault (HasFailed apply me now (state_of old) (state_of new) fault)) → IsPrefix Before After
   grows (Ok turn) ended halted failed = longer Before After ended.turned.taken ended.turned.placed ended.turned.gained
   grows (Err Stopped) ended halted failed = record { rest = []; joined = append-nil Before ∙ sym halted.log }
   grows (Err (CountFull at)) ended halted failed = grew failed.was_cut.cut_off
   grows (Err NoMemory) ended halted failed = grew failed.was_cut.cut_off
 
-  pub logs_grow : SamePost me.here (told_by old) (told_by new) → (r : Result Turn CommFault) →
-      IfOk r (HasEnded apply start me now (told_by old) (told_by new)) → IfErr r (λ fault. IfStopped fault (HasHalted me now (told_by old) (told_by new))) →
-      IfErr r (λ fault. UnlessStopped fault (HasFailed apply me now (told_by old) (told_by new) fault)) → LogsGrow old new
+  pub logs_grow : SamePost me.here (state_of old) (state_of new) → (r : Result Turn CommFault) →
+      IfOk r (HasEnded apply start me now (state_of old) (state_of new)) → IfErr r (λ fault. IfStopped fault (HasHalted me now (state_of old) (state_of new))) →
+      IfErr r (λ fault. UnlessStopped fault (HasFailed apply me now (state_of old) (state_of new) fault)) → LogsGrow old new
   logs_grow same r ended halted failed rank = elim (cases_eq rank me.here) [
     | inr ne ↦ record { rest = []; joined = append-nil (log_of old.world rank) ∙ sym (same.other_logs rank ne) }
     | inl is ↦ let P : ℕ → Type 0 = λ h. IsPrefix (log_of old.world h) (log_of new.world h) in subst P (sym is) (grows r ended halted failed)
@@ -95,7 +95,7 @@ module _ {C : Type 0} (apply : Applies C) (start : C → C) (me now : Rank C) (o
 -- ---- where it failed
 
 module _ {C : Type 0} (apply : Applies C) (start : C → C) (comms : List (Rank C)) (old new : Plain) (rank : ℕ) (me now : Rank C) (within : rank < length comms)
-    (there : slice_get comms rank ≡ Some me) (ranks : AreRanks apply start comms old) (same_rank : IsSameRank me now) (post : KeepsPost me (told_by old) (told_by new)) where
+    (there : slice_get comms rank ≡ Some me) (ranks : AreRanks apply start comms old) (same_rank : IsSameRank me now) (post : KeepsPost me (state_of old) (state_of new)) where
   mine_there : IsRankOf apply start old rank me
   mine_there = ranks.each rank me there
 
@@ -105,25 +105,25 @@ module _ {C : Type 0} (apply : Applies C) (start : C → C) (comms : List (Rank 
   abbrev log_after : List Entry
   log_after = log_of new.world me.here
 
-  same_there : SamePost rank (told_by old) (told_by new)
-  same_there = subst (λ h. SamePost h (told_by old) (told_by new)) mine_there.here post.same
+  same_there : SamePost rank (state_of old) (state_of new)
+  same_there = subst (λ h. SamePost h (state_of old) (state_of new)) mine_there.here post.same
 
-  cut_off_by : (fault : CommFault) → IfStopped fault (HasHalted me now (told_by old) (told_by new)) → UnlessStopped fault (HasFailed apply me now (told_by old) (told_by new) fault) → CutOff apply me now log log_after
+  cut_off_by : (fault : CommFault) → IfStopped fault (HasHalted me now (state_of old) (state_of new)) → UnlessStopped fault (HasFailed apply me now (state_of old) (state_of new) fault) → CutOff apply me now log log_after
   cut_off_by Stopped halted failed = cut_at_once apply me now log log_after mine_there.agrees.nothing_waits halted.does_nothing halted.log
   cut_off_by (CountFull at) halted failed = failed.was_cut.cut_off
   cut_off_by NoMemory halted failed = failed.was_cut.cut_off
 
-  full_by : (fault : CommFault) → UnlessStopped fault (HasFailed apply me now (told_by old) (told_by new) fault) → IfCountFull fault (λ _. FullAtFirst apply me now log log_after)
+  full_by : (fault : CommFault) → UnlessStopped fault (HasFailed apply me now (state_of old) (state_of new) fault) → IfCountFull fault (λ _. FullAtFirst apply me now log log_after)
   full_by Stopped failed = tt
   full_by (CountFull at) failed = failed.was_cut.full_at_first
   full_by NoMemory failed = tt
 
-  cause_by : (fault : CommFault) → UnlessStopped fault (HasFailed apply me now (told_by old) (told_by new) fault) → IsFullAt now.sent_count me.most fault
+  cause_by : (fault : CommFault) → UnlessStopped fault (HasFailed apply me now (state_of old) (state_of new) fault) → IsFullAt now.sent_count me.most fault
   cause_by Stopped failed = tt
   cause_by (CountFull at) failed = failed.was_cut.cause.count_full
   cause_by NoMemory failed = tt
 
-  pub failed_at : (fault : CommFault) → now.stopped ≡ true → IfStopped fault (HasHalted me now (told_by old) (told_by new)) → UnlessStopped fault (HasFailed apply me now (told_by old) (told_by new) fault) →
+  pub failed_at : (fault : CommFault) → now.stopped ≡ true → IfStopped fault (HasHalted me now (state_of old) (state_of new)) → UnlessStopped fault (HasFailed apply me now (state_of old) (state_of new) fault) →
       FailedAt apply start comms (set comms rank now) old new fault
   failed_at fault stopped halted failed =
       let here = mine_there.here in
@@ -153,7 +153,7 @@ module _ {C : Type 0} (apply : Applies C) (start : C → C) (comms : List (Rank 
       }
 
   -- a turn that met the stop did nothing
-  pub halted_at : (fault : CommFault) → IfStopped fault (HasHalted me now (told_by old) (told_by new)) → IfStopped fault (HaltedAt comms (set comms rank now) old new)
+  pub halted_at : (fault : CommFault) → IfStopped fault (HasHalted me now (state_of old) (state_of new)) → IfStopped fault (HaltedAt comms (set comms rank now) old new)
   halted_at fault = if_stopped fault (λ halted. record {
     rank = rank;
     me = me;

@@ -11,7 +11,7 @@ use Rattle.ygm_route.specs.Layout.{Shape}
 use Rattle.world_core.specs.Log.{batches_put, batches_taken, letters_put, letters_taken, letters_taken_by}
 use Rattle.world_core.specs.Modest.{IsWorld}
 use Rattle.world_core.specs.Pairs.{for_rank, is_of_pair, of_pair, of_sender, own, pair_put, pair_taken}
-use Rattle.world_core.specs.Plain.{Plain, told_by}
+use Rattle.world_core.specs.Plain.{Plain, state_of}
 use Rattle.world_core.specs.Post.{SamePost}
 use Rattle.world_core.specs.World.{link, log_of}
 use Rattle.world_core.proofs.Pairs.OfPair.{pair_of_sender}
@@ -41,9 +41,9 @@ sent_at comms links rank to me there here =
 pub record TurnAt {C : Type 0} (apply : Applies C) (start : C → C) (me now : Rank C) (old new : Plain) (turn : Turn) (rank : ℕ) : Type 0 where
   pub turned : Turned apply me now (log_of old.world rank) (log_of new.world rank) turn
   pub agrees : Agrees apply start now (log_of new.world rank)
-  pub takes : (from : ℕ) → from < me.layout.ranks → LookedAt rank from (told_by old) (told_by new)
-  pub puts : (to : ℕ) → to < me.layout.ranks → NoneOrFull rank to now.held (told_by old) (told_by new)
-  pub same : SamePost rank (told_by old) (told_by new)
+  pub takes : (from : ℕ) → from < me.layout.ranks → LookedAt rank from (state_of old) (state_of new)
+  pub puts : (to : ℕ) → to < me.layout.ranks → NoneOrFull rank to now.held (state_of old) (state_of new)
+  pub same : SamePost rank (state_of old) (state_of new)
 
 module _ {C : Type 0} (apply : Applies C) (start : C → C) (comms : List (Rank C)) (old new : Plain) (rank : ℕ) (me now : Rank C)
     (there : slice_get comms rank ≡ Some me) (ranks : AreRanks apply start comms old) (same_rank : IsSameRank me now) where
@@ -75,7 +75,7 @@ module _ {C : Type 0} (apply : Applies C) (start : C → C) (comms : List (Rank 
         subst (IsSameRank b) is (record { layout = refl; scheme = refl; here = refl; most = refl })
   ]
 
-  module _ (same : SamePost rank (told_by old) (told_by new)) where
+  module _ (same : SamePost rank (state_of old) (state_of new)) where
     pub links_after : AreSameLinks old new
     links_after = record { layout = same.layout; scheme = same.scheme; ring = same.ring; batches = same.batches }
 

@@ -8,7 +8,7 @@ use Rattle.world_core.specs.declared.entry.Entry.{Entry}
 use Rattle.world_core.specs.declared.entry.Entry.TheVariants.{Put, Took}
 use Rattle.world_core.specs.Log.{batches_taken, letters_taken, took_from}
 use Rattle.world_core.specs.Pairs.{for_rank, of_pair}
-use Rattle.world_core.specs.Post.{SameFulls, SameMisses, Told, is_full_in}
+use Rattle.world_core.specs.Post.{SameFulls, SameMisses, PostState, is_full_in}
 use Rattle.world_core.specs.Rising.{Rose}
 use Rattle.comm_rank.specs.declared.fault.CommFault.{CommFault}
 use Rattle.comm_rank.specs.declared.fault.CommFault.TheVariants.{NoMemory}
@@ -78,7 +78,7 @@ module _ {C : Type 0} (apply : Applies C) (old mid new : Rank C) (before between
 -- ---- at the post
 
 -- the rank put between `b` and `c`; between `a` and `b` no link was found full
-module _ (here there : ℕ) (a b c : Told) (same : there ≡ here) (fulls : SameFulls a b) (serves : (rank : ℕ) → b.serves rank ≡ a.serves rank) where
+module _ (here there : ℕ) (a b c : PostState) (same : there ≡ here) (fulls : SameFulls a b) (serves : (rank : ℕ) → b.serves rank ≡ a.serves rank) where
   pub met_then : (to : ℕ) (held : List (List Letter)) → NoneOrFull there to held b c → NoneOrFull here to held a c
   met_then to held met = elim met [
     | inl none ↦ inl none
@@ -98,7 +98,7 @@ module _ (here there : ℕ) (a b c : Told) (same : there ≡ here) (fulls : Same
     lower = λ rank below. found.lower rank below ∙ fulls rank;
   }
 
-pub looked_then : (here there : ℕ) (a b c : Told) → there ≡ here → SameMisses b c → (placed : List Entry) → c.log there ≡ b.log there ++ placed → AllByRecursion IsPut placed →
+pub looked_then : (here there : ℕ) (a b c : PostState) → there ≡ here → SameMisses b c → (placed : List Entry) → c.log there ≡ b.log there ++ placed → AllByRecursion IsPut placed →
     (from : ℕ) → LookedAt here from a b → LookedAt here from a c
 looked_then here there a b c same misses placed log puts from looked =
     let P : ℕ → Type 0 = λ h. c.log h ≡ b.log h ++ placed in

@@ -8,7 +8,7 @@ use Rattle.std.proofs.lemmas.List.Elements.{All-tail}
 use Rattle.msg_codec.specs.declared.letter.Letter.{Letter}
 use Rattle.msg_codec.specs.Spelling.{spelled_letter, spelling}
 use Rattle.msg_codec.specs.Placed.{Fits, first_letter, letters_at, starts_of, places_from, IsBatch, IsHeld}
-use Rattle.msg_codec.proofs.Placed.First.{told_again}
+use Rattle.msg_codec.proofs.Placed.First.{stated_again}
 use Rattle.msg_codec.proofs.Placed.Letters.{none_later}
 
 pub none_counted : (bytes later : List ℕ) (letters : List Letter) → IsBatch bytes (starts_of bytes later) → letters_at bytes (starts_of bytes later) ≡ letters → length bytes ≡ 0 → 0 ≡ length letters
@@ -25,11 +25,11 @@ held_at before [] k d fit lt = absurd (omega arith)
 held_at before (l ∷ letters) zero d fit lt =
     let fits = fit 0 l (omega arith) in
     let rest : drop (length before) (before ++ spelling (l ∷ letters)) ≡ spelled_letter l ++ spelling letters = drop_at before (spelling (l ∷ letters)) (length before) refl in
-    let told = told_again l (spelling letters) fits in
+    let stated = stated_again l (spelling letters) fits in
     record {
       inside = omega (arith, length-append before (spelling (l ∷ letters)));
-      short = rw (rest, told) fits.body_short;
-      whole = rw (rest, told) (omega (arith, length-append l.body (spelling letters)));
+      short = rw (rest, stated) fits.body_short;
+      whole = rw (rest, stated) (omega (arith, length-append l.body (spelling letters)));
     }
 held_at before (l ∷ letters) (suc k) d fit lt =
     let regrouped : (before ++ spelled_letter l) ++ spelling letters ≡ before ++ spelling (l ∷ letters) = append_assoc before (spelled_letter l) (spelling letters) in

@@ -7,7 +7,7 @@ use Rattle.list_facts.proofs.Places.{item_kept, item_placed, item_set}
 use Rattle.world_core.specs.declared.entry.Entry.{Entry}
 use Rattle.world_core.specs.Limits.{most_letters}
 use Rattle.world_core.specs.Modest.{IsWorld}
-use Rattle.world_core.specs.Plain.{Plain, is_stopped, told_by}
+use Rattle.world_core.specs.Plain.{Plain, is_stopped, state_of}
 use Rattle.world_core.specs.Post.{SameStops}
 use Rattle.world_core.specs.World.{log_of}
 use Rattle.comm_rank.specs.Agrees.{Agrees}
@@ -112,7 +112,7 @@ for_memory (Err (CountFull at)) links calm gave met = absurd (omega (arith, gave
 for_memory (Err NoMemory) links calm gave met = refl
 
 pub has_settled : (r : Result (Unit {0}) CommFault) (caller : ℕ) (before after : List (Rank Counts)) (old new : Plain) → AreReady before old → length after ≡ length before → AreSameRanks before after
-    → OnOk r ((rank : ℕ) → HasAdvanced counting_apply before after old new rank) → OnOk r (HasRun before after old new caller) → OnOk r (AreRanks counting_apply (λ _. []) after new) → IsWorld new.world → OnOk r (SameStops (told_by old) (told_by new))
+    → OnOk r ((rank : ℕ) → HasAdvanced counting_apply before after old new rank) → OnOk r (HasRun before after old new caller) → OnOk r (AreRanks counting_apply (λ _. []) after new) → IsWorld new.world → OnOk r (SameStops (state_of old) (state_of new))
     → OnOk r (HasSettled caller before after old new)
 has_settled (Err e) caller before after old new ready same ranks advanced ran now sound stops = tt
 has_settled (Ok u) caller before after old new ready same ranks advanced ran now sound stops = record {

@@ -14,7 +14,7 @@ use Rattle.ygm_route.specs.Layout.{Shape}
 use Rattle.world_core.specs.declared.entry.Entry.{Entry}
 use Rattle.world_core.specs.Limits.{most_letters}
 use Rattle.world_core.specs.Pairs.{of_pair}
-use Rattle.world_core.specs.Plain.{Plain, fresh_links, is_stopped, told_by}
+use Rattle.world_core.specs.Plain.{Plain, fresh_links, is_stopped, state_of}
 use Rattle.world_core.specs.Post.{SameStops}
 use Rattle.world_core.specs.Sound.{IsSound}
 use Rattle.world_core.specs.World.{log_of}
@@ -181,7 +181,7 @@ module _ (comms after : List (Rank Counts)) (old new : Plain) (same : length aft
     few = c.few;
   }
 
-  pub ready_settled : AreReady comms old → AreSameRanks comms after → AreRanks counting_apply (λ _. []) after new → SameStops (told_by old) (told_by new) → AreReady after new
+  pub ready_settled : AreReady comms old → AreSameRanks comms after → AreRanks counting_apply (λ _. []) after new → SameStops (state_of old) (state_of new) → AreReady after new
   ready_settled ready ranks now stops = record {
     ranks = now;
     most = λ r a e. let b = was r a e in (ranks r b.0 a b.1 e).most ∙ ready.most r b.0 b.1;

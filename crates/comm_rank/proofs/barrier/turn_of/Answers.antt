@@ -2,7 +2,7 @@ use Rattle.std.proofs.Common.{◌≡◌, ◌≤◌, ◌∙◌, ℕ, IfErr, get_o
 use Rattle.std.proofs.lemmas.Result.{IfErr-weaker, err_from_is_err_and}
 use Rattle.comm_rank.proofs.Settled.TurnMoves.{advanced_after, ranks_after, same_ranks_after, turn_moves}
 use Rattle.ygm_route.specs.declared.scheme.Scheme.TheVariants.{Direct}
-use Rattle.world_core.specs.Plain.{told_by}
+use Rattle.world_core.specs.Plain.{state_of}
 use Rattle.comm_rank.specs.Fault.{IfStopped, UnlessStopped}
 use Rattle.comm_rank.specs.Rank.{Rank}
 use Rattle.comm_rank.specs.Store.{AreApart}
@@ -35,7 +35,7 @@ returns-in_err-turn-clause-failed g c =
     let now = c.turn.new.self in
     let old = c.args.links.now in
     let new = c.turn.new.post in
-    let why : IfErr c.from_residual.result (λ fault. IfStopped fault (HasHalted me now (told_by old) (told_by new)) × UnlessStopped fault (HasFailed apply me now (told_by old) (told_by new) fault)) = search rules in
+    let why : IfErr c.from_residual.result (λ fault. IfStopped fault (HasHalted me now (state_of old) (state_of new)) × UnlessStopped fault (HasFailed apply me now (state_of old) (state_of new) fault)) = search rules in
     IfErr-weaker c.from_residual.result _ _
     (λ fault w. failed_at apply g.H.Handler.start c.args.comms.now old new c.args.rank me now c.requires.within
     (there apply g.H.Handler.start c.args.comms.now old c.args.rank c.requires.ranks c.requires.within c.index-comms-rank.result) c.requires.ranks (worked_same me now _ c.turn.ensures.rank) c.turn.ensures.post
@@ -56,7 +56,7 @@ returns-in_err-turn-clause-does_nothing_when_halted g c =
     let now = c.turn.new.self in
     let old = c.args.links.now in
     let new = c.turn.new.post in
-    let halted : IfErr c.from_residual.result (λ fault. IfStopped fault (HasHalted me now (told_by old) (told_by new))) = search rules in
+    let halted : IfErr c.from_residual.result (λ fault. IfStopped fault (HasHalted me now (state_of old) (state_of new))) = search rules in
     IfErr-weaker c.from_residual.result _ _
     (halted_at apply g.H.Handler.start c.args.comms.now old new c.args.rank me now c.requires.within
     (there apply g.H.Handler.start c.args.comms.now old c.args.rank c.requires.ranks c.requires.within c.index-comms-rank.result) c.requires.ranks (worked_same me now _ c.turn.ensures.rank) c.turn.ensures.post) halted

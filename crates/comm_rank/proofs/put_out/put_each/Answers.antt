@@ -10,9 +10,9 @@ use Rattle.comm_rank.proofs.put_out.put_each.Goals.{then-placed, else-placed}
 pub returns-in_err-placed-clause-failed : goal.returns-in_err-placed-clause-failed
 returns-in_err-placed-clause-failed g c =
     let before = c.args.held.now.lists in
-    let old = g.P.Post.told c.args.post.now in
-    let mid = g.P.Post.told c.loop-to.post in
-    let new = g.P.Post.told c.put_to.new.post in
+    let old = g.P.Post.state c.args.post.now in
+    let mid = g.P.Post.state c.loop-to.post in
+    let new = g.P.Post.state c.put_to.new.post in
     let i = c.loop-to.invariant in
     let there : IfErr c.from_residual.result (PutsFailed c.args.here c.loop-to.held.lists c.put_to.new.held.lists mid new) = search rules in
     IfErr-weaker c.from_residual.result _ _
@@ -24,9 +24,9 @@ loop-to-preserved g c =
     let to = c.loop-to.to in
     let a = c.loop-to.held.lists in
     let b = c.put_to.new.held.lists in
-    let old = g.P.Post.told c.args.post.now in
-    let mid = g.P.Post.told c.loop-to.post in
-    let new = g.P.Post.told c.put_to.new.post in
+    let old = g.P.Post.state c.args.post.now in
+    let mid = g.P.Post.state c.loop-to.post in
+    let new = g.P.Post.state c.put_to.new.post in
     let p = c.in_ok-placed.ensures.put in
     let i = c.loop-to.invariant in
     let full = c.in_ok-placed.placed.full in

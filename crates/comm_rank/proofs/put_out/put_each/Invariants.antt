@@ -9,10 +9,10 @@ use Rattle.comm_rank.proofs.put_out.put_each.Given as goal
 abbrev pub invariant-loop-to : goal.invariant-loop-to
 invariant-loop-to g l = record {
   placed : List Entry;
-  moved : Moved l.here l.fn.held.lists l.held.lists (g.P.Post.told l.fn.post) (g.P.Post.told l.post) placed;
+  moved : Moved l.here l.fn.held.lists l.held.lists (g.P.Post.state l.fn.post) (g.P.Post.state l.post) placed;
   count : l.put ≡ min (length placed) (2 ^ 64 - 1);
-  done : (d : ℕ) → d < l.to → NoneOrFull l.here d l.held.lists (g.P.Post.told l.fn.post) (g.P.Post.told l.post);
-  later : (d : ℕ) → l.to ≤ d → (g.P.Post.told l.post).fulls d ≡ (g.P.Post.told l.fn.post).fulls d;
-  first : FirstFull l.ranks l.held.lists (g.P.Post.told l.fn.post) (g.P.Post.told l.post) l.full;
+  done : (d : ℕ) → d < l.to → NoneOrFull l.here d l.held.lists (g.P.Post.state l.fn.post) (g.P.Post.state l.post);
+  later : (d : ℕ) → l.to ≤ d → (g.P.Post.state l.post).fulls d ≡ (g.P.Post.state l.fn.post).fulls d;
+  first : FirstFull l.ranks l.held.lists (g.P.Post.state l.fn.post) (g.P.Post.state l.post) l.full;
   below : Below l.to l.full;
 }

@@ -10,14 +10,14 @@ use Rattle.comm_rank.proofs.put_out.put_first.Goals as goal
 
 pub put-requires-clause-honest : goal.put-requires-clause-honest
 put-requires-clause-honest g c =
-    may_put_one c.args.here c.args.to _ c.args.held.now.lists c.next_out.new.self.lists (g.P.Post.told c.args.post.now) c.in-Some.batch c.requires.may_put c.requires.within refl
+    may_put_one c.args.here c.args.to _ c.args.held.now.lists c.next_out.new.self.lists (g.P.Post.state c.args.post.now) c.in-Some.batch c.requires.may_put c.requires.within refl
     c.in-Some.ensures.one c.in-Some.ensures.loses
 
 pub returns-in-Ok-clause-put : goal.returns-in-Ok-clause-put
 returns-in-Ok-clause-put g c =
     let here = c.args.here in
-    let old = g.P.Post.told c.args.post.now in
-    let new = g.P.Post.told c.put.new.self in
+    let old = g.P.Post.state c.args.post.now in
+    let new = g.P.Post.state c.put.new.self in
     let before = c.args.held.now.lists in
     let after = c.next_out.new.self.lists in
     let batch = c.in-Some.batch in
@@ -35,8 +35,8 @@ returns-in-Ok-clause-put g c =
 pub returns-in-Err-Full-clause-put : goal.returns-in-Err-Full-clause-put
 returns-in-Err-Full-clause-put g c =
     let here = c.args.here in
-    let old = g.P.Post.told c.args.post.now in
-    let new = g.P.Post.told c.put.new.self in
+    let old = g.P.Post.state c.args.post.now in
+    let new = g.P.Post.state c.put.new.self in
     let before = c.args.held.now.lists in
     let full : PutFoundFull here c.args.to old new = found_full c.in-Err-Full.field-0 c.in-Err-Full.batch c.in-Err-Full.field-0-is c.in-Err-Full.ensures.full in
     let back : c.step_back.new.self.lists ≡ before =
@@ -60,8 +60,8 @@ returns-in-Err-Full-clause-put g c =
 pub returns-in-Err-NoMemory-clause-failed : goal.returns-in-Err-NoMemory-clause-failed
 returns-in-Err-NoMemory-clause-failed g c =
     let here = c.args.here in
-    let old = g.P.Post.told c.args.post.now in
-    let new = g.P.Post.told c.put.new.self in
+    let old = g.P.Post.state c.args.post.now in
+    let new = g.P.Post.state c.put.new.self in
     let before = c.args.held.now.lists in
     let none : PutHadNoMemory here old new = had_no_memory c.in-Err-NoMemory.field-0 c.in-Err-NoMemory.batch c.in-Err-NoMemory.field-0-is c.in-Err-NoMemory.ensures.no_memory in
     let again = c.step_back-in-Err-NoMemory in

@@ -19,9 +19,9 @@ loop-k-init g c = record {
 pub returns-in_err-put_first-clause-failed : goal.returns-in_err-put_first-clause-failed
 returns-in_err-put_first-clause-failed g c =
     let before = c.args.held.now.lists in
-    let old = g.P.Post.told c.args.post.now in
-    let mid = g.P.Post.told c.loop-k.post in
-    let new = g.P.Post.told c.put_first.new.post in
+    let old = g.P.Post.state c.args.post.now in
+    let mid = g.P.Post.state c.loop-k.post in
+    let new = g.P.Post.state c.put_first.new.post in
     let i = c.loop-k.invariant in
     let there : IfErr c.from_residual.result (PutsFailed c.args.here c.loop-k.held.lists c.put_first.new.held.lists mid new) = search rules in
     IfErr-weaker c.from_residual.result _ _
@@ -30,9 +30,9 @@ returns-in_err-put_first-clause-failed g c =
 pub returns-then-not-branch-clause-put : goal.returns-then-not-branch-clause-put
 returns-then-not-branch-clause-put g c =
     let before = c.args.held.now.lists in
-    let old = g.P.Post.told c.args.post.now in
-    let mid = g.P.Post.told c.loop-k.post in
-    let new = g.P.Post.told c.put_first.new.post in
+    let old = g.P.Post.state c.args.post.now in
+    let mid = g.P.Post.state c.loop-k.post in
+    let new = g.P.Post.state c.put_first.new.post in
     let i = c.loop-k.invariant in
     let p = c.in_ok-put_first.ensures.put in
     record {
@@ -45,9 +45,9 @@ returns-then-not-branch-clause-put g c =
 pub loop-k-preserved : goal.loop-k-preserved
 loop-k-preserved g c =
     let before = c.args.held.now.lists in
-    let old = g.P.Post.told c.args.post.now in
-    let mid = g.P.Post.told c.loop-k.post in
-    let new = g.P.Post.told c.put_first.new.post in
+    let old = g.P.Post.state c.args.post.now in
+    let mid = g.P.Post.state c.loop-k.post in
+    let new = g.P.Post.state c.put_first.new.post in
     let i = c.loop-k.invariant in
     let p = c.in_ok-put_first.ensures.put in
     let one = puts_one c.in_ok-put_first.field-0 c.args.here c.args.to c.loop-k.held.lists c.put_first.new.held.lists mid new c.if-not-branch.false p.one in

@@ -10,10 +10,10 @@ use Rattle.comm_rank.proofs.put_out.put_to.Given as goal
 abbrev pub invariant-loop-k : goal.invariant-loop-k
 invariant-loop-k g l = record {
   placed : List Entry;
-  moved : Moved l.here l.fn.held.lists l.held.lists (g.P.Post.told l.fn.post) (g.P.Post.told l.post) placed;
+  moved : Moved l.here l.fn.held.lists l.held.lists (g.P.Post.state l.fn.post) (g.P.Post.state l.post) placed;
   count : length placed ≡ l.k;
   remaining : length (held_for l.held.lists l.to) + l.k ≡ length (held_for l.fn.held.lists l.to);
-  fulls : SameFulls (g.P.Post.told l.fn.post) (g.P.Post.told l.post);
+  fulls : SameFulls (g.P.Post.state l.fn.post) (g.P.Post.state l.post);
   others : OthersUnchanged l.to l.fn.held.lists l.held.lists;
   apart : AreApart l.held.lists l.to;
 }

@@ -1,6 +1,6 @@
 use Rattle.std.proofs.Common.{◌≡◌, sym, ap, subst, arith}
 use Rattle.std.proofs.lemmas.Result.{IfErr-weaker, IfOk-weaker}
-use Rattle.world_core.specs.Post.{Told}
+use Rattle.world_core.specs.Post.{PostState}
 use Rattle.comm_rank.specs.Agrees.{Belongs}
 use Rattle.comm_rank.specs.Rank.{Rank}
 use Rattle.comm_rank.specs.Moves.{HasPutAll, MoveKeeps, PutAllFailed}
@@ -12,7 +12,7 @@ put_each-requires-clause-may_put g c =
     let i = c.self.inside in
     let me : Rank g.row.H.Denot = record { layout = i.layout; scheme = i.scheme; here = i.here; most = i.limits.letters; contents = i.handler; sent_count = i.sent.count; run_count = i.ran; held = i.held.lists; waiting = i.waiting; stopped = i.stopped } in
     let is : me ≡ c.args.self.now = c.self.view_is in
-    let old : Told = g.P.Post.told c.args.post.now in
+    let old : PostState = g.P.Post.state c.args.post.now in
     may_put g.H.Handler.apply g.H.Handler.start me old (subst (λ m. Belongs g.H.Handler.apply g.H.Handler.start m old) (sym is) c.requires.belongs) c.self.invariant.1 c.self.invariant.0 c.self.invariant.5
     (omega (arith, c.count.ensures.value, c.if-prove.false, i.limits.few_letters))
 
@@ -21,8 +21,8 @@ returns-clause-put g c =
     let i = c.self.inside in
     let me : Rank g.row.H.Denot = record { layout = i.layout; scheme = i.scheme; here = i.here; most = i.limits.letters; contents = i.handler; sent_count = i.sent.count; run_count = i.ran; held = i.held.lists; waiting = i.waiting; stopped = i.stopped } in
     let is : me ≡ c.args.self.now = c.self.view_is in
-    let old : Told = g.P.Post.told c.args.post.now in
-    let new : Told = g.P.Post.told c.put_each.new.post in
+    let old : PostState = g.P.Post.state c.args.post.now in
+    let new : PostState = g.P.Post.state c.put_each.new.post in
     let held = c.put_each.new.held.lists in
     let belongs : Belongs g.H.Handler.apply g.H.Handler.start me old = subst (λ m. Belongs g.H.Handler.apply g.H.Handler.start m old) (sym is) c.requires.belongs in
     IfOk-weaker c.put_each.result _ _
@@ -33,8 +33,8 @@ returns-clause-failed g c =
     let i = c.self.inside in
     let me : Rank g.row.H.Denot = record { layout = i.layout; scheme = i.scheme; here = i.here; most = i.limits.letters; contents = i.handler; sent_count = i.sent.count; run_count = i.ran; held = i.held.lists; waiting = i.waiting; stopped = i.stopped } in
     let is : me ≡ c.args.self.now = c.self.view_is in
-    let old : Told = g.P.Post.told c.args.post.now in
-    let new : Told = g.P.Post.told c.put_each.new.post in
+    let old : PostState = g.P.Post.state c.args.post.now in
+    let new : PostState = g.P.Post.state c.put_each.new.post in
     let held = c.put_each.new.held.lists in
     let belongs : Belongs g.H.Handler.apply g.H.Handler.start me old = subst (λ m. Belongs g.H.Handler.apply g.H.Handler.start m old) (sym is) c.requires.belongs in
     IfErr-weaker c.put_each.result _ _
@@ -45,8 +45,8 @@ returns-clause-belongs g c =
     let i = c.self.inside in
     let me : Rank g.row.H.Denot = record { layout = i.layout; scheme = i.scheme; here = i.here; most = i.limits.letters; contents = i.handler; sent_count = i.sent.count; run_count = i.ran; held = i.held.lists; waiting = i.waiting; stopped = i.stopped } in
     let is : me ≡ c.args.self.now = c.self.view_is in
-    let old : Told = g.P.Post.told c.args.post.now in
-    let new : Told = g.P.Post.told c.put_each.new.post in
+    let old : PostState = g.P.Post.state c.args.post.now in
+    let new : PostState = g.P.Post.state c.put_each.new.post in
     let held = c.put_each.new.held.lists in
     let belongs : Belongs g.H.Handler.apply g.H.Handler.start me old = subst (λ m. Belongs g.H.Handler.apply g.H.Handler.start m old) (sym is) c.requires.belongs in
     let m = moved_each i.here _ i.held.lists held old new c.put_each.result c.put_each.ensures.put c.put_each.ensures.failed in
@@ -55,15 +55,15 @@ returns-clause-belongs g c =
 pub returns-clause-honest : goal.returns-clause-honest
 returns-clause-honest g c =
     let i = c.self.inside in
-    let old : Told = g.P.Post.told c.args.post.now in
-    let new : Told = g.P.Post.told c.put_each.new.post in
+    let old : PostState = g.P.Post.state c.args.post.now in
+    let new : PostState = g.P.Post.state c.put_each.new.post in
     let m = moved_each i.here _ i.held.lists c.put_each.new.held.lists old new c.put_each.result c.put_each.ensures.put c.put_each.ensures.failed in
     honest_moved g.H.Handler.apply g.H.Handler.start c.args.self.now i.here old new (ap (λ (m : Rank g.row.H.Denot). m.here) c.self.view_is) c.requires.belongs m.1.keeps.same m.1.honest
 
 pub returns-clause-keeps : goal.returns-clause-keeps
 returns-clause-keeps g c =
     let i = c.self.inside in
-    let old : Told = g.P.Post.told c.args.post.now in
-    let new : Told = g.P.Post.told c.put_each.new.post in
+    let old : PostState = g.P.Post.state c.args.post.now in
+    let new : PostState = g.P.Post.state c.put_each.new.post in
     let m = moved_each i.here _ i.held.lists c.put_each.new.held.lists old new c.put_each.result c.put_each.ensures.put c.put_each.ensures.failed in
     subst (λ h. MoveKeeps h old new) (ap (λ (m : Rank g.row.H.Denot). m.here) c.self.view_is) m.1.keeps

@@ -12,7 +12,7 @@ loop-from-init g c = record {
   belongs = c.requires.belongs;
   looked = λ k none. absurd (omega (arith, none));
   others = λ k past. record { taken = refl; misses = refl; serves = refl; link = refl };
-  keeps = takes_none c.args.self.now (g.P.Post.told c.args.post.now);
+  keeps = takes_none c.args.self.now (g.P.Post.state c.args.post.now);
   rank = refl;
   ranks = c.ranks-from-end.ensures.value;
   few = omega arith;
@@ -21,17 +21,17 @@ loop-from-init g c = record {
 pub returns-in_err-took-clause-cut : goal.returns-in_err-took-clause-cut
 returns-in_err-took-clause-cut g c =
     let apply = g.H.Handler.apply in
-    let told = g.P.Post.told in
+    let state = g.P.Post.state in
     let old = c.args.self.now in
     let mid = c.loop-from.self in
     let new = c.take_from.new.self in
     let from = c.loop-from.from in
     let inv = c.loop-from.invariant in
     let same = same_rank old mid inv.rank in
-    let there : IfErr c.from_residual.result (WasCutFrom from apply mid new ((told c.loop-from.post).log mid.here) ((told c.take_from.new.post).log mid.here)) = search rules in
+    let there : IfErr c.from_residual.result (WasCutFrom from apply mid new ((state c.loop-from.post).log mid.here) ((state c.take_from.new.post).log mid.here)) = search rules in
     IfErr-weaker c.from_residual.result _ _
     (λ fault cut.
-    let P : ℕ → Type 0 = λ h. WasCutFrom from apply mid new ((told c.loop-from.post).log h) ((told c.take_from.new.post).log h) fault in
+    let P : ℕ → Type 0 = λ h. WasCutFrom from apply mid new ((state c.loop-from.post).log h) ((state c.take_from.new.post).log h) fault in
     cut_later apply old mid new _ _ _ same from c.loop-from.took inv.taken fault (subst P same.here cut)) there
 
 pub returns-in_err-took-clause-rank : goal.returns-in_err-took-clause-rank
@@ -45,7 +45,7 @@ returns-in_err-took-clause-keeps g c =
 pub loop-from-preserved : goal.loop-from-preserved
 loop-from-preserved g c =
     let apply = g.H.Handler.apply in
-    let told = g.P.Post.told in
+    let state = g.P.Post.state in
     let old = c.args.self.now in
     let mid = c.loop-from.self in
     let new = c.take_from.new.self in
@@ -53,7 +53,7 @@ loop-from-preserved g c =
     let inv = c.loop-from.invariant in
     let same = same_rank old mid inv.rank in
     let has = c.in_ok-took.ensures.took in
-    let P : ℕ → Type 0 = λ h. TookFrom from apply mid new ((told c.loop-from.post).log h) ((told c.take_from.new.post).log h) c.in_ok-took.field-0 in
+    let P : ℕ → Type 0 = λ h. TookFrom from apply mid new ((state c.loop-from.post).log h) ((state c.take_from.new.post).log h) c.in_ok-took.field-0 in
     let second = subst P same.here has.taken in
     record {
       taken = joined apply old mid new _ _ _ same from c.loop-from.took inv.taken c.in_ok-took.field-0 second;

@@ -8,13 +8,13 @@ use Rattle.comm_rank.proofs.comm.Comm.turn.Goals as goal
 
 pub returns-then-is_err-clause-failed : goal.returns-then-is_err-clause-failed
 returns-then-is_err-clause-failed g c =
-    let told = g.P.Post.told in
+    let state = g.P.Post.state in
     let old = c.args.self.now in
     let mid = c.work-ended.new.self in
-    let before = told c.args.post.now in
-    let looked = told c.stopped.new.self in
-    let after = told c.work-ended.new.post in
-    let now = told c.raise_stop.new.self in
+    let before = state c.args.post.now in
+    let looked = state c.stopped.new.self in
+    let after = state c.work-ended.new.post in
+    let now = state c.raise_stop.new.self in
     let here : c.self.inside.here ≡ old.here = ap (λ (me : Rank _). me.here) c.self.view_is in
     let still : c.self-2.inside.here ≡ old.here = ap (λ (me : Rank _). me.here) c.self-2.view_is ∙ (same_rank old mid c.work-ended.ensures.rank).here in
     let first : looked.log old.here ≡ before.log old.here = log_at c.self.inside.here old.here before.log looked.log here c.stopped.ensures.keeps.log in

@@ -9,15 +9,15 @@ use Rattle.comm_rank.proofs.comm.Comm.work.Goals as goal
 
 pub returns-in_err-put-clause-cut : goal.returns-in_err-put-clause-cut
 returns-in_err-put-clause-cut g c =
-    let told = g.P.Post.told in
+    let state = g.P.Post.state in
     let old = c.args.self.now in
     let mid = c.take_all.new.self in
     let new = c.put_all.new.self in
     let same = same_rank old mid c.take_all.ensures.rank in
-    let there : IfErr c.from_residual-in_err-put.result (PutAllFailed mid new (told c.take_all.new.post) (told c.put_all.new.post)) = search rules in
+    let there : IfErr c.from_residual-in_err-put.result (PutAllFailed mid new (state c.take_all.new.post) (state c.put_all.new.post)) = search rules in
     IfErr-weaker c.from_residual-in_err-put.result _ _
     (λ fault f.
-    let P : ℕ → Type 0 = λ h. PutOut mid new ((told c.take_all.new.post).log h) ((told c.put_all.new.post).log h) f.placed in
+    let P : ℕ → Type 0 = λ h. PutOut mid new ((state c.take_all.new.post).log h) ((state c.put_all.new.post).log h) f.placed in
     was_cut g.H.Handler.apply old mid new _ _ _ c.in_ok-took.took c.in_ok-took.ensures.took.taken f.placed (subst P same.here f.out) fault f.no_memory) there
 
 pub returns-in_err-put-clause-keeps : goal.returns-in_err-put-clause-keeps
@@ -31,13 +31,13 @@ returns-clause-keeps g c =
 pub returns-clause-ended : goal.returns-clause-ended
 returns-clause-ended g c =
     let apply = g.H.Handler.apply in
-    let told = g.P.Post.told in
+    let state = g.P.Post.state in
     let old = c.args.self.now in
     let mid = c.take_all.new.self in
     let new = c.put_all.new.self in
-    let a = told c.args.post.now in
-    let b = told c.take_all.new.post in
-    let d = told c.put_all.new.post in
+    let a = state c.args.post.now in
+    let b = state c.take_all.new.post in
+    let d = state c.put_all.new.post in
     let same = same_rank old mid c.take_all.ensures.rank in
     let takes = c.take_all.ensures.keeps in
     let has = c.in_ok-took.ensures.took in
