@@ -4,14 +4,14 @@ use Rattle.msg_codec.specs.declared.letter.Letter.{Letter}
 use Rattle.ygm_route.specs.declared.scheme.Scheme.{Scheme}
 use Rattle.ygm_route.specs.Layout.{Shape}
 use Rattle.world_core.specs.declared.entry.Entry.{Entry}
-use Rattle.world_core.specs.Local.{Local}
+use Rattle.world_core.specs.Local.{Local, local_rank}
 use Rattle.world_core.specs.Log.{letters_of}
 use Rattle.world_core.specs.Pairs.{of_pair, ran, ran_from as pair_ran, sent}
 use Rattle.comm_rank.specs.Fold.{Applies, fold_from, handed_from}
 use Rattle.comm_rank.specs.Held.{Gains}
 
 -- Its place in its world, how many letters it may send, what its handler keeps, its counts, the letters that it holds by
--- destination, the letters that it took and that still wait, and whether it is stopped.
+-- the rank that they go to next, the letters that it took and that still wait, and whether it is stopped.
 pub record Rank (C : Type 0) : Type 0 where
   pub layout : Shape
   pub scheme : Scheme
@@ -41,7 +41,7 @@ fresh_rank layout scheme here most contents = record {
 
 -- the rank as the rules see it, with its log
 abbrev pub local_of : {C : Type 0} → Rank C → List Entry → Local
-local_of me log = record { layout = me.layout; scheme = me.scheme; here = me.here; log = log }
+local_of me log = local_rank me.layout me.scheme me.here log
 
 -- the letters that it holds, whatever their destination
 abbrev pub held_letters : {C : Type 0} → Rank C → List Letter
