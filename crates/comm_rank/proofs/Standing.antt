@@ -115,19 +115,24 @@ module _ {C : Type 0} (apply : Applies C) (start : C → C) where
 
   -- ---- the start
 
-  module _ (layout : Shape) (most ring batches : ℕ) (few : most ≤ batches) (contents : C) (fresh : start contents ≡ contents) where
-    pub stand_new : (comms : List (Rank C)) → length comms ≡ layout.ranks → ((rank : ℕ) (me : Rank C) → slice_get comms rank ≡ Some me → me ≡ fresh_rank layout Direct rank most contents) →
-        Stand comms (fresh_links layout Direct ring batches)
-    stand_new comms all each rank me e going =
-        let links = fresh_links layout Direct ring batches in
+  module _ (layout : Shape) (most ring batches : ℕ) (contents : C) (fresh : start contents ≡ contents) where
+    agrees_new : (rank : ℕ) → rank < layout.ranks → Agrees apply start (fresh_rank layout Direct rank most contents) (log_of (fresh_links layout Direct ring batches).world rank)
+    agrees_new rank within =
+        let none : log_of (fresh_links layout Direct ring batches).world rank ≡ [] = get_or-replicate layout.ranks rank [] [] within in
+        subst (Agrees apply start (fresh_rank layout Direct rank most contents)) (sym none) (agrees_fresh apply start layout Direct rank most contents refl fresh)
+
+    pub belongs_new : (rank : ℕ) → rank < layout.ranks → Belongs apply start (fresh_rank layout Direct rank most contents) (told_by (fresh_links layout Direct ring batches))
+    belongs_new rank within = record { serves = lt-ltb _ _ within; layout = refl; scheme = refl; agrees = agrees_new rank within }
+
+    pub stand_new : most ≤ batches → (comms : List (Rank C)) → length comms ≡ layout.ranks →
+        ((rank : ℕ) (me : Rank C) → slice_get comms rank ≡ Some me → me ≡ fresh_rank layout Direct rank most contents) → Stand comms (fresh_links layout Direct ring batches)
+    stand_new few comms all each rank me e going =
         let within = slice_get_within comms rank me e in
-        let none : log_of links.world rank ≡ [] = get_or-replicate layout.ranks rank [] [] (omega (arith, within, all)) in
-        let new : IsRankOf apply start links rank (fresh_rank layout Direct rank most contents) = record {
+        subst (IsRankOf apply start (fresh_links layout Direct ring batches) rank) (sym (each rank me e)) (record {
           here = refl;
           layout = refl;
           scheme = refl;
           going = refl;
           few = few;
-          agrees = subst (Agrees apply start (fresh_rank layout Direct rank most contents)) (sym none) (agrees_fresh apply start layout Direct rank most contents refl fresh);
-        } in
-        subst (IsRankOf apply start links rank) (sym (each rank me e)) new
+          agrees = agrees_new rank (omega (arith, within, all));
+        })

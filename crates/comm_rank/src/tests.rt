@@ -5,6 +5,7 @@ ghost use Rattle.ygm_route.specs.declared.scheme.Scheme.TheVariants.{Direct};
 ghost use Rattle.comm_rank.specs.Agrees.{Agrees, Belongs};
 ghost use Rattle.comm_rank.specs.Rank.{IsSameRank, fresh_rank};
 
+mod queue_post;
 mod settling;
 
 use super::*;
@@ -243,17 +244,26 @@ impl<H: Handler> Ranks<H> {
     }
 }
 
-// the first bytes of the letters that ran at a rank
-fn seen(comm: &Comm<Echo>) -> &[u8] {
-    comm.contents().seen.as_slice()
+// The first bytes of the letters that ran at a rank, and how many letters it sent and ran.
+type State<'a> = (&'a [u8], u64, u64);
+
+impl Ranks<Echo> {
+    fn state(&self, rank: u32) -> Result<State<'_>, Fail> {
+        let comm = self.rank(rank)?;
+        let seen = comm.contents().seen.as_slice();
+        Ok((seen, comm.sent_count(), comm.run_count()))
+    }
 }
 
 fn straight(rt: &impl Abort, ranks: &mut Ranks<Echo>) -> Result<(), Fail> {
     ranks.send(1, 6, NOTE, b"a")?;
-    assert_eq!(rt; ranks.turn(1)??.put, 1);
-    assert_eq!(rt; ranks.link_len(1, 6)?, 1);
-    assert_eq!(rt; ranks.turn(6)??.took, 1);
-    assert_eq!(rt; seen(ranks.rank(6)?), b"a".as_slice());
+    let put = ranks.turn(1)??.put;
+    let waiting = ranks.link_len(1, 6)?;
+    let took = ranks.turn(6)??.took;
+    assert_eq!(rt;
+        (put, waiting, took, ranks.state(6)?),
+        (1, 1, 1, (b"a".as_slice(), 0, 1))
+    );
     Ok(())
 }
 
@@ -265,13 +275,19 @@ fn letters_go_straight_to_their_ranks(rt: HostRuntime) -> Result<(), Fail> {
 // Rank 0 asks, rank 1 answers twice, and rank 0 takes both answers.
 fn asked(rt: &impl Abort, ranks: &mut Ranks<Echo>) -> Result<(), Fail> {
     ranks.send(0, 1, ASK, b"q")?;
-    for rank in [0, 1, 0, 0] {
-        ranks.turn(rank)??;
-    }
-    assert_eq!(rt; ranks.put_by(1)?.as_slice(), [(0, 1), (0, 0)].as_slice());
-    let (near, far) = (ranks.rank(0)?, ranks.rank(1)?);
-    assert_eq!(rt; seen(near), [b'q', 0].as_slice());
-    assert_eq!(rt; (far.sent_count(), near.run_count()), (2, 2));
+    ranks.turn(0)??;
+    ranks.turn(1)??;
+    ranks.turn(0)??;
+    ranks.turn(0)??;
+    let put = ranks.put_by(1)?;
+    assert_eq!(rt;
+        (put.as_slice(), ranks.state(0)?, ranks.state(1)?),
+        (
+            [(0, 1), (0, 0)].as_slice(),
+            (b"q\0".as_slice(), 1, 2),
+            (b"q".as_slice(), 2, 1)
+        )
+    );
     Ok(())
 }
 
@@ -287,9 +303,16 @@ fn through_a_full_link(rt: &impl Abort, ranks: &mut Ranks<Echo>) -> Result<(), F
     ranks.turn(1)??;
     let second = ranks.turn(0)??;
     ranks.turn(1)??;
-    assert_eq!(rt; (first.put, first.full), (1, Some(1)));
-    assert_eq!(rt; (second.put, second.full), (1, None));
-    assert_eq!(rt; seen(ranks.rank(1)?), b"ab".as_slice());
+    assert_eq!(rt;
+        (
+            first.put,
+            first.full,
+            second.put,
+            second.full,
+            ranks.state(1)?
+        ),
+        (1, Some(1), 1, None, (b"ab".as_slice(), 0, 2))
+    );
     Ok(())
 }
 
@@ -307,9 +330,11 @@ const TWO_LETTERS: Limits = Limits {
 fn sent_too_much(rt: &impl Abort, ranks: &mut Ranks<Echo>) -> Result<(), Fail> {
     ranks.send(0, 1, NOTE, b"a")?;
     ranks.send(0, 0, NOTE, b"b")?;
-    let third = ranks.try_send(0, 1, NOTE, b'c')?;
-    assert!(rt; matches!(third, Err(CommFault::CountFull(_))));
-    assert_eq!(rt; ranks.rank(0)?.sent_count(), 2);
+    let full = matches!(
+        ranks.try_send(0, 1, NOTE, b'c')?,
+        Err(CommFault::CountFull(_))
+    );
+    assert_eq!(rt; (full, ranks.rank(0)?.sent_count()), (true, 2));
     Ok(())
 }
 
@@ -323,11 +348,19 @@ fn asked_too_much(rt: &impl Abort, ranks: &mut Ranks<Echo>) -> Result<(), Fail> 
     ranks.send(0, 1, ASK, b"q")?;
     ranks.send(1, 0, NOTE, b"n")?;
     ranks.turn(0)??;
-    assert!(rt; matches!(ranks.turn(1)?, Err(CommFault::CountFull(_))));
-    assert!(rt; matches!(ranks.turn(0)?, Err(CommFault::Stopped)));
+    let full = matches!(ranks.turn(1)?, Err(CommFault::CountFull(_)));
+    let stopped = matches!(ranks.turn(0)?, Err(CommFault::Stopped));
     let (near, far) = (ranks.rank(0)?, ranks.rank(1)?);
-    assert_eq!(rt; (near.is_stopped(), far.is_stopped()), (true, true));
-    assert_eq!(rt; far.run_count(), 0);
+    assert_eq!(rt;
+        (
+            full,
+            stopped,
+            near.is_stopped(),
+            far.is_stopped(),
+            far.run_count()
+        ),
+        (true, true, true, true, 0)
+    );
     Ok(())
 }
 
@@ -343,10 +376,11 @@ fn a_handler_takes_back_what_it_sent(rt: HostRuntime) -> Result<(), Fail> {
     out.send(0, ASK, Body::of(rt.alloc(), b"b")?)?;
     assert_eq!(rt; (out.count(), out.ranks()), (2, 3));
     out.cut(1);
-    assert_eq!(rt; out.count(), 1);
     let kept = out.letter(1, 0);
-    assert_eq!(rt; (kept.to, kept.from, kept.tag), (2, 1, ASK));
-    assert_eq!(rt; kept.body, b"a".as_slice());
+    assert_eq!(rt;
+        (out.count(), kept.to, kept.from, kept.tag, kept.body),
+        (1, 2, 1, ASK, b"a".as_slice())
+    );
     Ok(())
 }
 

@@ -1,7 +1,7 @@
 ghost use Rattle.std.specs.Prelude.{◌≡◌};
 ghost use Rattle.std.specs.List.{list_any};
 
-use super::{ASK, Echo, NOTE, Ranks, TWO_LETTERS, ranks_of, seen};
+use super::{ASK, Echo, NOTE, Ranks, TWO_LETTERS, ranks_of};
 use crate::{Comm, CommFault, Handler, settle};
 use std::process::Abort;
 use std::test::*;
@@ -22,15 +22,6 @@ impl<H: Handler> Ranks<H> {
         Ok(settle(&mut self.comms, &mut self.links, caller))
     }
 
-    // how many letters ranks 0 and 1 have sent, and how many ran there
-    fn counts(&self) -> Result<[(u64, u64); 2], Fail> {
-        let (near, far) = (self.rank(0)?, self.rank(1)?);
-        Ok([
-            (near.sent_count(), near.run_count()),
-            (far.sent_count(), far.run_count()),
-        ])
-    }
-
     // how many batches a rank put and took
     fn log_len(&self, rank: u32) -> Result<usize, Fail> {
         if rank >= self.layout.ranks() {
@@ -46,9 +37,10 @@ fn crossing(rt: &impl Abort, ranks: &mut Ranks<Echo>) -> Result<(), Fail> {
     ranks.send(0, 0, NOTE, b"c")?;
     ranks.send(1, 0, NOTE, b"xy")?;
     ranks.settle(0)??;
-    assert_eq!(rt; seen(ranks.rank(0)?), b"cxy".as_slice());
-    assert_eq!(rt; seen(ranks.rank(1)?), b"ab".as_slice());
-    assert_eq!(rt; ranks.counts()?, [(3, 3), (2, 2)]);
+    assert_eq!(rt;
+        (ranks.state(0)?, ranks.state(1)?),
+        ((b"cxy".as_slice(), 3, 3), (b"ab".as_slice(), 2, 2))
+    );
     Ok(())
 }
 
@@ -66,8 +58,10 @@ fn through_a_narrow_link(
 ) -> Result<(), Fail> {
     ranks.send(from, to, NOTE, b"abcde")?;
     ranks.settle(from)??;
-    assert_eq!(rt; ranks.link_len(from, to)?, 0);
-    assert_eq!(rt; seen(ranks.rank(to)?), b"abcde".as_slice());
+    assert_eq!(rt;
+        (ranks.link_len(from, to)?, ranks.state(to)?),
+        (0, (b"abcde".as_slice(), 0, 5))
+    );
     Ok(())
 }
 
@@ -88,12 +82,17 @@ fn a_barrier_runs_as_many_at_a_lower_rank(rt: HostRuntime) -> Result<(), Fail> {
 fn asked(rt: &impl Abort, ranks: &mut Ranks<Echo>) -> Result<(), Fail> {
     ranks.send(0, 1, ASK, b"q")?;
     ranks.settle(0)??;
-    assert_eq!(rt; ranks.link_len(1, 0)?, 1);
+    let waiting = ranks.link_len(1, 0)?;
     ranks.settle(1)??;
-    assert_eq!(rt; ranks.link_len(1, 0)?, 0);
-    assert_eq!(rt; seen(ranks.rank(0)?), [b'q', 0].as_slice());
-    assert_eq!(rt; seen(ranks.rank(1)?), b"q".as_slice());
-    assert_eq!(rt; ranks.counts()?, [(1, 2), (2, 1)]);
+    assert_eq!(rt;
+        (
+            waiting,
+            ranks.link_len(1, 0)?,
+            ranks.state(0)?,
+            ranks.state(1)?
+        ),
+        (1, 0, (b"q\0".as_slice(), 1, 2), (b"q".as_slice(), 2, 1))
+    );
     Ok(())
 }
 
@@ -105,8 +104,16 @@ fn answers_run_in_the_barrier_of_the_rank_that_gave_them(rt: HostRuntime) -> Res
 // A barrier with nothing sent.
 fn idle(rt: &impl Abort, ranks: &mut Ranks<Echo>) -> Result<(), Fail> {
     ranks.settle(0)??;
-    assert_eq!(rt; (ranks.log_len(0)?, ranks.log_len(1)?), (0, 0));
-    assert_eq!(rt; ranks.counts()?, [(0, 0), (0, 0)]);
+    let none: &[u8] = &[];
+    assert_eq!(rt;
+        (
+            ranks.log_len(0)?,
+            ranks.log_len(1)?,
+            ranks.state(0)?,
+            ranks.state(1)?
+        ),
+        (0, 0, (none, 0, 0), (none, 0, 0))
+    );
     Ok(())
 }
 
@@ -118,11 +125,26 @@ fn a_barrier_with_nothing_sent_changes_nothing(rt: HostRuntime) -> Result<(), Fa
 // A rank that may send two letters is asked for four: only that rank is stopped.
 fn asked_too_much(rt: &impl Abort, ranks: &mut Ranks<Echo>) -> Result<(), Fail> {
     ranks.send(0, 1, ASK, b"qr")?;
-    assert!(rt; matches!(ranks.settle(0)?, Err(CommFault::CountFull(_))));
-    let stopped = (ranks.rank(0)?.is_stopped(), ranks.rank(1)?.is_stopped());
-    assert_eq!(rt; stopped, (false, true));
-    assert_eq!(rt; ranks.counts()?, [(2, 1), (2, 1)]);
-    assert_eq!(rt; ranks.link_len(1, 0)?, 1);
+    let full = matches!(ranks.settle(0)?, Err(CommFault::CountFull(_)));
+    let (near, far) = (ranks.rank(0)?, ranks.rank(1)?);
+    assert_eq!(rt;
+        (
+            full,
+            near.is_stopped(),
+            far.is_stopped(),
+            ranks.link_len(1, 0)?
+        ),
+        (true, false, true, 1)
+    );
+    assert_eq!(rt;
+        (
+            near.sent_count(),
+            near.run_count(),
+            far.sent_count(),
+            far.run_count()
+        ),
+        (2, 1, 2, 1)
+    );
     Ok(())
 }
 

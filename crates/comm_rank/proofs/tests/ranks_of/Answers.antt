@@ -24,4 +24,4 @@ invariant_of-result c =
     let batches = c.args.limits.batches in
     let all : length c.loop-here.comms.items ≡ layout.ranks = search rules in
     let links : c.in_ok-links-2.links.value ≡ fresh_links layout Direct c.args.ring batches = c.in_ok-links-2.ensures ∙ c.in_ok-links.ensures in
-    rw links (refl, all, stand_new _ _ layout most c.args.ring batches c.requires.few [] refl c.loop-here.comms.items all c.loop-here.invariant.each)
+    rw links (refl, all, stand_new _ _ layout most c.args.ring batches [] refl c.requires.few c.loop-here.comms.items all c.loop-here.invariant.each)
