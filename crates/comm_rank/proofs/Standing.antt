@@ -1,5 +1,5 @@
 -- All ranks of a world, of which one sends or takes a turn.
-use Rattle.std.proofs.Common.{◌≡◌, ◌≢◌, ℕ, zero, suc, ◌<◌, ◌≤◌, Bool, false, true, Some, Result, Ok, Err, List, [], ◌∷◌, ◌++◌, set, slice_get, refl, sym, ◌∙◌, ap, subst, inl, inr, arith, length, length-set, lt-ltb}
+use Rattle.std.proofs.Common.{◌≡◌, ◌≢◌, ℕ, zero, suc, ◌<◌, ◌≤◌, false, true, Some, Result, Ok, Err, List, [], ◌∷◌, ◌++◌, set, slice_get, refl, sym, ◌∙◌, ap, subst, inl, inr, arith, length, lt-ltb}
 use Rattle.std.specs.List.{list_any}
 use Rattle.std.specs.Result.{IfErr, OnOk}
 use Rattle.std.proofs.lemmas.Bool.{cases_eq}

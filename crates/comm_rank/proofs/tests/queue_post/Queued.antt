@@ -1,5 +1,5 @@
 -- A world of one rank, what waits in its link, and what a queue that holds this tells as a post.
-use Rattle.std.proofs.Common.{◌≡◌, ◌≢◌, ℕ, zero, suc, ◌+◌, ◌<◌, ◌≤◌, ◌^◌, nat_le, Bool, true, Some, None, List, [], ◌∷◌, ◌++◌, length, drop, get_or, slice_get, refl, sym, ap, ◌∙◌, subst, arith, ltb-true, le-leb}
+use Rattle.std.proofs.Common.{◌≡◌, ◌≢◌, ℕ, zero, suc, ◌<◌, ◌≤◌, ◌^◌, nat_le, Bool, true, Some, None, List, [], ◌∷◌, ◌++◌, length, drop, get_or, slice_get, refl, sym, ap, ◌∙◌, subst, arith, ltb-true, le-leb}
 use Rattle.std.specs.Bool.{IsTrue}
 use Rattle.msg_codec.specs.declared.letter.Letter.{Letter}
 use Rattle.world_core.specs.Rising.{next_count}

@@ -1,4 +1,4 @@
-use Rattle.std.proofs.Common.{◌≡◌, ◌∙◌, ℕ, Some, List, [], ◌∷◌, ◌++◌, length, slice_get, refl, sym, subst, arith, rules}
+use Rattle.std.proofs.Common.{◌≡◌, ◌∙◌, ℕ, Some, List, [], ◌∷◌, ◌++◌, length, slice_get, refl, sym, subst, rules}
 use Rattle.ygm_route.specs.declared.scheme.Scheme.TheVariants.{Direct}
 use Rattle.world_core.specs.Plain.{fresh_links}
 use Rattle.comm_rank.specs.Rank.{Rank, fresh_rank}

@@ -1,6 +1,5 @@
-use Rattle.std.proofs.Common.{◌≡◌, ◌<◌, ◌++◌, List, [], ◌∷◌, length, map, sym, ap, ◌∙◌, subst, arith, rules}
+use Rattle.std.proofs.Common.{◌≡◌, ◌<◌, ◌++◌, [], ◌∷◌, map, sym, ap, ◌∙◌, subst, rules}
 use Rattle.std.specs.Bool.{IsTrue}
-use Rattle.msg_codec.specs.declared.letter.Letter.{Letter}
 use Rattle.world_core.specs.declared.entry.Entry.TheVariants.{Took}
 use Rattle.world_core.specs.Plain.{Plain, told_by}
 use Rattle.world_core.specs.Post.{TookBatch}
