@@ -1,18 +1,18 @@
 ghost use Rattle.std.specs.Prelude.{◌≡◌, ◌<◌, ◌≤◌, ◌++◌, List, [], ◌∷◌, false, IfOk, OnOk, OnErr};
 ghost use Rattle.world_core.specs.declared.entry.Entry.{Entry};
-ghost use Rattle.world_core.specs.Plain.{state_of};
 ghost use Rattle.world_core.specs.Post.{SamePost};
 ghost use Rattle.ygm_route.specs.declared.scheme.Scheme.TheVariants.{Direct};
-ghost use Rattle.comm_rank.specs.Agrees.{Agrees};
+ghost use Rattle.comm_rank.specs.Agrees.{Agrees, Belongs};
 ghost use Rattle.comm_rank.specs.Rank.{IsSameRank, fresh_rank};
-ghost use Rattle.comm_rank.specs.Settled.{IsRankOf};
 
+mod queue_post;
 mod settling;
 
 use super::*;
 use msg_codec::{Body, Counter, LetterRef};
 use std::alloc::{AllocError, Global};
 use std::marker::Model;
+use std::process::Abort;
 use std::test::*;
 use world_core::{Entry, Limits, PlainLinks, Post};
 use ygm_route::{Layout, Scheme};
@@ -87,45 +87,27 @@ fn answer(alloc: Global, letter: LetterRef<'_>, out: &mut Outgoing) -> Result<()
     second
 }
 
-// Two ranks of a world, and its links.
-#[derive(Drop)]
-struct Pair<H: Handler> {
-    alloc: Global,
-    layout: Layout,
-    near: Comm<H>,
-    far: Comm<H>,
-    links: PlainLinks,
-}
-
-impl<H: Handler> Model for Pair<H> {
-    ghost use Rattle.std.specs.Prelude.{◌≡◌, ◌≢◌, ◌<◌, ◌≤◌, false};
-    ghost use Rattle.world_core.specs.Plain.{Plain};
-    ghost use Rattle.comm_rank.specs.Settled.{IsRankOf};
-
-    ghost Value = { Plain };
-
-    ghost view = { λ pair. pair.links };
-
-    ghost invariant = { λ pair. (pair.near.here ≢ pair.far.here) × (pair.near.here < pair.layout.ranks) × (pair.far.here < pair.layout.ranks)
-        × (pair.links.world.layout ≡ pair.layout) × (1 ≤ pair.links.ring)
-        × (pair.near.stopped ≡ false → IsRankOf H.apply H.start pair.links pair.near.here pair.near)
-        × (pair.far.stopped ≡ false → IsRankOf H.apply H.start pair.links pair.far.here pair.far) };
+// A value in a box. Its owner drops it by one call, whatever it holds.
+fn boxed<T: Drop>(alloc: Global, value: T) -> Result<Box<T>, Fail>
+    ensures { IfOk result (λ boxed. boxed.value ≡ value) }
+{
+    Ok(
+        Box::new(alloc, value)
+            .ok()
+            .ok_or("there is memory for a box")?,
+    )
 }
 
 // A rank that has sent and run nothing.
-fn rank_of<H: Handler>(
-    alloc: Global,
-    layout: Layout,
-    here: u32,
-    limits: Limits,
-    handler: H,
-) -> Result<Comm<H>, Fail>
+fn rank_of(alloc: Global, layout: Layout, here: u32, limits: Limits) -> Result<Comm<Echo>, Fail>
     requires below { here < layout.ranks }
-    requires fresh { H.start handler ≡ handler }
-    ensures made { IfOk result (λ comm. comm ≡ fresh_rank layout Direct here limits.letters handler) }
-    ensures agrees { IfOk result (λ comm. Agrees H.apply H.start comm []) }
+    ensures made { IfOk result (λ comm. comm ≡ fresh_rank layout Direct here limits.letters []) }
 {
-    let made = Comm::new(alloc, layout, Scheme::Direct, here, limits, handler);
+    let echo = Echo {
+        alloc,
+        seen: Vec::new(alloc),
+    };
+    let made = Comm::new(alloc, layout, Scheme::Direct, here, limits, echo);
     Ok(made.ok().ok_or("there is memory for a rank")?)
 }
 
@@ -147,49 +129,63 @@ fn send_by<H: Handler>(
     Ok(comm.send(to, tag, Body::of(alloc, &[first])?))
 }
 
-// A turn of a rank, if it isn't stopped.
-fn turn_of<H: Handler>(
-    comm: &mut Comm<H>,
-    links: &mut PlainLinks,
-) -> Result<Result<Turn, CommFault>, Fail>
-    requires within { comm.old.here < links.old.world.layout.ranks }
-    requires ready { comm.old.stopped ≡ false → IsRankOf H.apply H.start links.old comm.old.here comm.old }
-    ensures ready { comm.new.stopped ≡ false → IsRankOf H.apply H.start links.new comm.new.here comm.new }
-    ensures here { comm.new.here ≡ comm.old.here }
-    ensures same { SamePost comm.old.here (state_of links.old) (state_of links.new) }
+// A turn. Of what it promises this is enough here: a rank that isn't stopped still belongs to the post.
+fn turn_of<H: Handler, P: Post>(comm: &mut Comm<H>, post: &mut P) -> Result<Turn, CommFault>
+    requires going { comm.old.stopped ≡ false }
+    requires belongs { Belongs H.apply H.start comm.old (P.state post.old) }
+    ensures belongs { comm.new.stopped ≡ false → Belongs H.apply H.start comm.new (P.state post.new) }
+    ensures same_rank { IsSameRank comm.old comm.new }
+    ensures same_post { SamePost comm.old.here (P.state post.old) (P.state post.new) }
 {
-    if comm.is_stopped() {
-        return Err("a rank that isn't stopped takes a turn".into());
-    }
-    Ok(comm.turn(links))
+    comm.turn(post)
 }
 
-impl<H: Handler> Pair<H> {
-    // Two of so many ranks, with their numbers and handlers, links that hold so many batches, and limits.
-    fn with(
-        alloc: Global,
-        ranks: u32,
-        near: (u32, H),
-        far: (u32, H),
-        ring: u32,
-        limits: Limits,
-    ) -> Result<Pair<H>, Fail>
-        requires near { H.start near.1 ≡ near.1 }
-        requires far { H.start far.1 ≡ far.1 }
-        requires ring { 1 ≤ ring }
-        requires few { limits.letters ≤ limits.batches }
-    {
-        let layout = Layout::new(ranks, 1)?;
-        if near.0 == far.0 || near.0 >= ranks || far.0 >= ranks {
-            return Err("there are two ranks of the world".into());
-        }
-        Ok(Pair {
-            alloc,
-            layout,
-            near: rank_of(alloc, layout, near.0, limits, near.1)?,
-            far: rank_of(alloc, layout, far.0, limits, far.1)?,
-            links: PlainLinks::new(alloc, layout, Scheme::Direct, ring, limits)?,
-        })
+// All ranks of a world, and its links. What is large is in a `Vec` and a `Box`.
+#[derive(Drop)]
+struct Ranks<H: Handler> {
+    alloc: Global,
+    layout: Layout,
+    comms: Vec<Comm<H>>,
+    links: Box<PlainLinks>,
+}
+
+impl<H: Handler> Model for Ranks<H> {
+    ghost use Rattle.std.specs.Prelude.{◌≡◌, ℕ, Some, false, length, slice_get};
+    ghost use Rattle.world_core.specs.Plain.{Plain};
+    ghost use Rattle.comm_rank.specs.Rank.{Rank};
+    ghost use Rattle.comm_rank.specs.Settled.{IsRankOf};
+
+    ghost Value = { Plain };
+
+    ghost view = { λ ranks. ranks.links.value };
+
+    ghost invariant = { λ ranks. (ranks.links.value.world.layout ≡ ranks.layout) × (length ranks.comms.items ≡ ranks.layout.ranks)
+        × ((rank : ℕ) (me : Rank H) → slice_get ranks.comms.items rank ≡ Some me → me.stopped ≡ false → IsRankOf H.apply H.start ranks.links.value rank me) };
+}
+
+// The ranks of a world of so many, links that hold so many batches, and limits.
+fn ranks_of(alloc: Global, ranks: u32, ring: u32, limits: Limits) -> Result<Ranks<Echo>, Fail>
+    requires ring { 1 ≤ ring }
+    requires few { limits.letters ≤ limits.batches }
+{
+    let layout = Layout::new(ranks, 1)?;
+    let links = PlainLinks::new(alloc, layout, Scheme::Direct, ring, limits)?;
+    let links = boxed(alloc, links)?;
+    let mut comms = Vec::new(alloc);
+    for here in 0..ranks {
+        comms.push(rank_of(alloc, layout, here, limits)?)?;
+    }
+    Ok(Ranks {
+        alloc,
+        layout,
+        comms,
+        links,
+    })
+}
+
+impl<H: Handler> Ranks<H> {
+    fn rank(&self, rank: u32) -> Result<&Comm<H>, Fail> {
+        Ok(self.comms.get(rank as usize).ok_or("there is such a rank")?)
     }
 
     fn try_send(
@@ -199,28 +195,27 @@ impl<H: Handler> Pair<H> {
         tag: u8,
         first: u8,
     ) -> Result<Result<(), CommFault>, Fail> {
-        if from == self.near.here() {
-            send_by(self.alloc, &mut self.near, to, tag, first)
-        } else if from == self.far.here() {
-            send_by(self.alloc, &mut self.far, to, tag, first)
-        } else {
-            Err("one of the two ranks sends".into())
+        let rank = from as usize;
+        if rank >= self.comms.len() {
+            return Err("a rank of the world sends".into());
         }
+        send_by(self.alloc, &mut self.comms[rank], to, tag, first)
     }
 
-    fn send(&mut self, from: u32, to: u32, tag: u8, first: u8) -> Result<(), Fail> {
-        self.try_send(from, to, tag, first)??;
+    // Sends a letter for each byte of a text.
+    fn send(&mut self, from: u32, to: u32, tag: u8, text: &[u8]) -> Result<(), Fail> {
+        for first in text {
+            self.try_send(from, to, tag, *first)??;
+        }
         Ok(())
     }
 
     fn turn(&mut self, rank: u32) -> Result<Result<Turn, CommFault>, Fail> {
-        if rank == self.near.here() {
-            turn_of(&mut self.near, &mut self.links)
-        } else if rank == self.far.here() {
-            turn_of(&mut self.far, &mut self.links)
-        } else {
-            Err("one of the two ranks takes a turn".into())
+        let rank = rank as usize;
+        if rank >= self.comms.len() || self.comms[rank].is_stopped() {
+            return Err("a rank that isn't stopped takes a turn".into());
         }
+        Ok(turn_of(&mut self.comms[rank], &mut *self.links))
     }
 
     // the destinations of the batches that a rank put, and the lengths of their first bodies, as the log has them
@@ -240,6 +235,7 @@ impl<H: Handler> Pair<H> {
         Ok(puts)
     }
 
+    // the number of batches in a link
     fn link_len(&self, from: u32, to: u32) -> Result<usize, Fail> {
         if from >= self.layout.ranks() || to >= self.layout.ranks() {
             return Err("a link is between ranks of the world".into());
@@ -248,106 +244,81 @@ impl<H: Handler> Pair<H> {
     }
 }
 
-// Nothing seen.
-fn fresh(alloc: Global) -> Echo
-    ensures { result ≡ [] }
-{
-    Echo {
-        alloc,
-        seen: Vec::new(alloc),
+// The first bytes of the letters that ran at a rank, and how many letters it sent and ran.
+type State<'a> = (&'a [u8], u64, u64);
+
+impl Ranks<Echo> {
+    fn state(&self, rank: u32) -> Result<State<'_>, Fail> {
+        let comm = self.rank(rank)?;
+        let seen = comm.contents().seen.as_slice();
+        Ok((seen, comm.sent_count(), comm.run_count()))
     }
 }
 
-// Two of so many ranks, links that hold so many batches, and limits.
-fn two_of(
-    alloc: Global,
-    ranks: u32,
-    near: u32,
-    far: u32,
-    ring: u32,
-    limits: Limits,
-) -> Result<Pair<Echo>, Fail>
-    requires ring { 1 ≤ ring }
-    requires few { limits.letters ≤ limits.batches }
-{
-    Pair::with(
-        alloc,
-        ranks,
-        (near, fresh(alloc)),
-        (far, fresh(alloc)),
-        ring,
-        limits,
-    )
-}
-
-// Both ranks of a world of two.
-fn both(alloc: Global, ring: u32, limits: Limits) -> Result<Pair<Echo>, Fail>
-    requires ring { 1 ≤ ring }
-    requires few { limits.letters ≤ limits.batches }
-{
-    two_of(alloc, 2, 0, 1, ring, limits)
-}
-
-// the first bytes of the letters that ran at a rank
-fn seen(comm: &Comm<Echo>) -> &[u8] {
-    comm.contents().seen.as_slice()
-}
-
-fn straight(pair: &mut Pair<Echo>) -> Result<(u64, usize, u32), Fail> {
-    pair.send(1, 6, NOTE, b'a')?;
-    let put = pair.turn(1)??.put;
-    let waiting = pair.link_len(1, 6)?;
-    let took = pair.turn(6)??.took;
-    Ok((put, waiting, took))
+fn straight(rt: &impl Abort, ranks: &mut Ranks<Echo>) -> Result<(), Fail> {
+    ranks.send(1, 6, NOTE, b"a")?;
+    let put = ranks.turn(1)??.put;
+    let waiting = ranks.link_len(1, 6)?;
+    let took = ranks.turn(6)??.took;
+    assert_eq!(rt;
+        (put, waiting, took, ranks.state(6)?),
+        (1, 1, 1, (b"a".as_slice(), 0, 1))
+    );
+    Ok(())
 }
 
 #[test]
 fn letters_go_straight_to_their_ranks(rt: HostRuntime) -> Result<(), Fail> {
-    let mut pair = two_of(rt.alloc(), 8, 1, 6, 1, Limits::FULL)?;
-    assert_eq!(rt; straight(&mut pair)?, (1, 1, 1));
-    assert_eq!(rt; seen(&pair.far), b"a".as_slice());
-    Ok(())
+    straight(&rt, &mut ranks_of(rt.alloc(), 8, 1, Limits::FULL)?)
 }
 
 // Rank 0 asks, rank 1 answers twice, and rank 0 takes both answers.
-fn asked(pair: &mut Pair<Echo>) -> Result<Vec<(u32, usize)>, Fail> {
-    pair.send(0, 1, ASK, b'q')?;
-    pair.turn(0)??;
-    pair.turn(1)??;
-    pair.turn(0)??;
-    pair.turn(0)??;
-    pair.put_by(1)
+fn asked(rt: &impl Abort, ranks: &mut Ranks<Echo>) -> Result<(), Fail> {
+    ranks.send(0, 1, ASK, b"q")?;
+    ranks.turn(0)??;
+    ranks.turn(1)??;
+    ranks.turn(0)??;
+    ranks.turn(0)??;
+    let put = ranks.put_by(1)?;
+    assert_eq!(rt;
+        (put.as_slice(), ranks.state(0)?, ranks.state(1)?),
+        (
+            [(0, 1), (0, 0)].as_slice(),
+            (b"q\0".as_slice(), 1, 2),
+            (b"q".as_slice(), 2, 1)
+        )
+    );
+    Ok(())
 }
 
 #[test]
 fn both_answers_of_a_handler_are_sent_in_order(rt: HostRuntime) -> Result<(), Fail> {
-    let mut pair = both(rt.alloc(), 4, Limits::FULL)?;
-    let put = asked(&mut pair)?;
-    assert_eq!(rt; put.as_slice(), [(0, 1), (0, 0)].as_slice());
-    assert_eq!(rt; seen(&pair.near), [b'q', 0].as_slice());
-    assert_eq!(rt; pair.far.sent_count(), 2);
-    assert_eq!(rt; pair.near.run_count(), 2);
-    Ok(())
+    asked(&rt, &mut ranks_of(rt.alloc(), 2, 4, Limits::FULL)?)
 }
 
-// Two letters over a link that holds one batch: what each turn of the sender put, and to whom the link was full.
-fn through_a_full_link(pair: &mut Pair<Echo>) -> Result<[(u64, Option<u32>); 2], Fail> {
-    pair.send(0, 1, NOTE, b'a')?;
-    pair.send(0, 1, NOTE, b'b')?;
-    let first = pair.turn(0)??;
-    pair.turn(1)??;
-    let second = pair.turn(0)??;
-    pair.turn(1)??;
-    Ok([(first.put, first.full), (second.put, second.full)])
+// Two letters over a link that holds one batch.
+fn through_a_full_link(rt: &impl Abort, ranks: &mut Ranks<Echo>) -> Result<(), Fail> {
+    ranks.send(0, 1, NOTE, b"ab")?;
+    let first = ranks.turn(0)??;
+    ranks.turn(1)??;
+    let second = ranks.turn(0)??;
+    ranks.turn(1)??;
+    assert_eq!(rt;
+        (
+            first.put,
+            first.full,
+            second.put,
+            second.full,
+            ranks.state(1)?
+        ),
+        (1, Some(1), 1, None, (b"ab".as_slice(), 0, 2))
+    );
+    Ok(())
 }
 
 #[test]
 fn a_full_link_loses_no_batch(rt: HostRuntime) -> Result<(), Fail> {
-    let mut pair = both(rt.alloc(), 1, Limits::FULL)?;
-    let turns = through_a_full_link(&mut pair)?;
-    assert_eq!(rt; turns, [(1, Some(1)), (1, None)]);
-    assert_eq!(rt; seen(&pair.far), b"ab".as_slice());
-    Ok(())
+    through_a_full_link(&rt, &mut ranks_of(rt.alloc(), 2, 1, Limits::FULL)?)
 }
 
 const TWO_LETTERS: Limits = Limits {
@@ -356,35 +327,46 @@ const TWO_LETTERS: Limits = Limits {
     batches: 2,
 };
 
-#[test]
-fn a_rank_sends_as_many_letters_as_it_may(rt: HostRuntime) -> Result<(), Fail> {
-    let mut pair = both(rt.alloc(), 4, TWO_LETTERS)?;
-    pair.send(0, 1, NOTE, b'a')?;
-    pair.send(0, 0, NOTE, b'b')?;
-    let third = pair.try_send(0, 1, NOTE, b'c')?;
-    assert!(rt; matches!(third, Err(CommFault::CountFull(_))));
-    assert_eq!(rt; pair.near.sent_count(), 2);
+fn sent_too_much(rt: &impl Abort, ranks: &mut Ranks<Echo>) -> Result<(), Fail> {
+    ranks.send(0, 1, NOTE, b"a")?;
+    ranks.send(0, 0, NOTE, b"b")?;
+    let full = matches!(
+        ranks.try_send(0, 1, NOTE, b'c')?,
+        Err(CommFault::CountFull(_))
+    );
+    assert_eq!(rt; (full, ranks.rank(0)?.sent_count()), (true, 2));
     Ok(())
 }
 
-// A rank that may send one letter more is asked for two: whether its turn, and then that of the other, failed so.
-fn asked_too_much(pair: &mut Pair<Echo>) -> Result<(bool, bool), Fail> {
-    pair.send(0, 1, ASK, b'q')?;
-    pair.send(1, 0, NOTE, b'n')?;
-    pair.turn(0)??;
-    let full = matches!(pair.turn(1)?, Err(CommFault::CountFull(_)));
-    let stopped = matches!(pair.turn(0)?, Err(CommFault::Stopped));
-    Ok((full, stopped))
+#[test]
+fn a_rank_sends_as_many_letters_as_it_may(rt: HostRuntime) -> Result<(), Fail> {
+    sent_too_much(&rt, &mut ranks_of(rt.alloc(), 2, 4, TWO_LETTERS)?)
+}
+
+// A rank that may send one letter more is asked for two: its turn, and then that of the other, fail.
+fn asked_too_much(rt: &impl Abort, ranks: &mut Ranks<Echo>) -> Result<(), Fail> {
+    ranks.send(0, 1, ASK, b"q")?;
+    ranks.send(1, 0, NOTE, b"n")?;
+    ranks.turn(0)??;
+    let full = matches!(ranks.turn(1)?, Err(CommFault::CountFull(_)));
+    let stopped = matches!(ranks.turn(0)?, Err(CommFault::Stopped));
+    let (near, far) = (ranks.rank(0)?, ranks.rank(1)?);
+    assert_eq!(rt;
+        (
+            full,
+            stopped,
+            near.is_stopped(),
+            far.is_stopped(),
+            far.run_count()
+        ),
+        (true, true, true, true, 0)
+    );
+    Ok(())
 }
 
 #[test]
 fn a_rank_whose_handler_sends_too_many_stops_all(rt: HostRuntime) -> Result<(), Fail> {
-    let mut pair = both(rt.alloc(), 4, TWO_LETTERS)?;
-    assert_eq!(rt; asked_too_much(&mut pair)?, (true, true));
-    assert!(rt; pair.far.is_stopped());
-    assert!(rt; pair.near.is_stopped());
-    assert_eq!(rt; pair.far.run_count(), 0);
-    Ok(())
+    asked_too_much(&rt, &mut ranks_of(rt.alloc(), 2, 4, TWO_LETTERS)?)
 }
 
 #[test]
@@ -392,26 +374,29 @@ fn a_handler_takes_back_what_it_sent(rt: HostRuntime) -> Result<(), Fail> {
     let mut out = Outgoing::new(rt.alloc(), 3);
     out.send(2, ASK, Body::of(rt.alloc(), b"a")?)?;
     out.send(0, ASK, Body::of(rt.alloc(), b"b")?)?;
-    assert_eq!(rt; out.count(), 2);
-    assert_eq!(rt; out.ranks(), 3);
+    assert_eq!(rt; (out.count(), out.ranks()), (2, 3));
     out.cut(1);
-    assert_eq!(rt; out.count(), 1);
     let kept = out.letter(1, 0);
-    assert_eq!(rt; (kept.to, kept.from, kept.tag), (2, 1, ASK));
-    assert_eq!(rt; kept.body, b"a".as_slice());
+    assert_eq!(rt;
+        (out.count(), kept.to, kept.from, kept.tag, kept.body),
+        (1, 2, 1, ASK, b"a".as_slice())
+    );
+    Ok(())
+}
+
+fn reads_as(rt: &impl Abort, alloc: Global, fault: CommFault, text: &str) -> Result<(), Fail> {
+    let shown = format!(in alloc; "{fault}")?;
+    assert_eq!(rt; shown.as_str(), text);
     Ok(())
 }
 
 #[test]
 fn faults_are_told_apart(rt: HostRuntime) -> Result<(), Fail> {
-    let text = format!(in rt.alloc(); "{}", CommFault::from(AllocError))?;
-    assert_eq!(rt; text.as_str(), "out of memory");
-    let at = Counter::new(0).raise(1).err().ok_or("1 is above 0")?;
-    let text = format!(in rt.alloc(); "{}", CommFault::from(at))?;
-    assert_eq!(rt; text.as_str(), "the rank is at its limit of letters");
-    let text = format!(in rt.alloc(); "{}", CommFault::Stopped)?;
-    assert_eq!(rt; text.as_str(), "a rank has stopped");
-    Ok(())
+    let alloc = rt.alloc();
+    let full = CommFault::from(Counter::new(0).raise(1).err().ok_or("1 is above 0")?);
+    reads_as(&rt, alloc, CommFault::from(AllocError), "out of memory")?;
+    reads_as(&rt, alloc, full, "the rank is at its limit of letters")?;
+    reads_as(&rt, alloc, CommFault::Stopped, "a rank has stopped")
 }
 
 #[test]
