@@ -1,4 +1,4 @@
-ghost use Rattle.std.specs.Prelude.{◌≡◌, ◌<◌, ◌≤◌, ◌++◌, List, [], ◌∷◌, false, IfOk, OnOk, OnErr};
+ghost use Rattle.std.specs.Prelude.{◌≡◌, ◌<◌, ◌≤◌, ◌+◌, ◌++◌, List, [], ◌∷◌, false, length, IfOk, OnOk, OnErr};
 ghost use Rattle.world_core.specs.declared.entry.Entry.{Entry};
 ghost use Rattle.world_core.specs.Post.{SamePost};
 ghost use Rattle.ygm_route.specs.declared.scheme.Scheme.TheVariants.{Direct};
@@ -11,6 +11,7 @@ mod settling;
 use super::*;
 use msg_codec::{Body, Counter, LetterRef};
 use std::alloc::{AllocError, Global};
+use std::fmt::Debug;
 use std::marker::Model;
 use std::process::Abort;
 use std::test::*;
@@ -96,6 +97,11 @@ fn boxed<T: Drop>(alloc: Global, value: T) -> Result<Box<T>, Fail>
             .ok()
             .ok_or("there is memory for a box")?,
     )
+}
+
+// Fails the test unless both are equal. The macro would be proved anew wherever it stands.
+fn same<T: PartialEq + Debug + Drop>(rt: &impl Abort, found: T, wanted: T) {
+    assert_eq!(rt; found, wanted);
 }
 
 // A rank that has sent and run nothing.
@@ -260,9 +266,10 @@ fn straight(rt: &impl Abort, ranks: &mut Ranks<Echo>) -> Result<(), Fail> {
     let put = ranks.turn(1)??.put;
     let waiting = ranks.link_len(1, 6)?;
     let took = ranks.turn(6)??.took;
-    assert_eq!(rt;
+    same(
+        rt,
         (put, waiting, took, ranks.state(6)?),
-        (1, 1, 1, (b"a".as_slice(), 0, 1))
+        (1, 1, 1, (b"a".as_slice(), 0, 1)),
     );
     Ok(())
 }
@@ -279,14 +286,16 @@ fn asked(rt: &impl Abort, ranks: &mut Ranks<Echo>) -> Result<(), Fail> {
     ranks.turn(1)??;
     ranks.turn(0)??;
     ranks.turn(0)??;
+    let (near, far) = (ranks.state(0)?, ranks.state(1)?);
     let put = ranks.put_by(1)?;
-    assert_eq!(rt;
-        (put.as_slice(), ranks.state(0)?, ranks.state(1)?),
+    same(
+        rt,
+        (put.as_slice(), near, far),
         (
             [(0, 1), (0, 0)].as_slice(),
             (b"q\0".as_slice(), 1, 2),
-            (b"q".as_slice(), 2, 1)
-        )
+            (b"q".as_slice(), 2, 1),
+        ),
     );
     Ok(())
 }
@@ -303,15 +312,16 @@ fn through_a_full_link(rt: &impl Abort, ranks: &mut Ranks<Echo>) -> Result<(), F
     ranks.turn(1)??;
     let second = ranks.turn(0)??;
     ranks.turn(1)??;
-    assert_eq!(rt;
+    same(
+        rt,
         (
             first.put,
             first.full,
             second.put,
             second.full,
-            ranks.state(1)?
+            ranks.state(1)?,
         ),
-        (1, Some(1), 1, None, (b"ab".as_slice(), 0, 2))
+        (1, Some(1), 1, None, (b"ab".as_slice(), 0, 2)),
     );
     Ok(())
 }
@@ -334,7 +344,7 @@ fn sent_too_much(rt: &impl Abort, ranks: &mut Ranks<Echo>) -> Result<(), Fail> {
         ranks.try_send(0, 1, NOTE, b'c')?,
         Err(CommFault::CountFull(_))
     );
-    assert_eq!(rt; (full, ranks.rank(0)?.sent_count()), (true, 2));
+    same(rt, (full, ranks.rank(0)?.sent_count()), (true, 2));
     Ok(())
 }
 
@@ -351,15 +361,16 @@ fn asked_too_much(rt: &impl Abort, ranks: &mut Ranks<Echo>) -> Result<(), Fail> 
     let full = matches!(ranks.turn(1)?, Err(CommFault::CountFull(_)));
     let stopped = matches!(ranks.turn(0)?, Err(CommFault::Stopped));
     let (near, far) = (ranks.rank(0)?, ranks.rank(1)?);
-    assert_eq!(rt;
+    same(
+        rt,
         (
             full,
             stopped,
             near.is_stopped(),
             far.is_stopped(),
-            far.run_count()
+            far.run_count(),
         ),
-        (true, true, true, true, 0)
+        (true, true, true, true, 0),
     );
     Ok(())
 }
@@ -369,24 +380,33 @@ fn a_rank_whose_handler_sends_too_many_stops_all(rt: HostRuntime) -> Result<(), 
     asked_too_much(&rt, &mut ranks_of(rt.alloc(), 2, 4, TWO_LETTERS)?)
 }
 
+fn two_sent(alloc: Global, out: &mut Outgoing) -> Result<(), Fail>
+    requires { out.old.ranks ≡ 3 }
+    ensures { OnOk result (length out.new.letters ≡ length out.old.letters + 2) }
+{
+    out.send(2, ASK, Body::of(alloc, b"a")?)?;
+    out.send(0, ASK, Body::of(alloc, b"b")?)?;
+    Ok(())
+}
+
 #[test]
 fn a_handler_takes_back_what_it_sent(rt: HostRuntime) -> Result<(), Fail> {
     let mut out = Outgoing::new(rt.alloc(), 3);
-    out.send(2, ASK, Body::of(rt.alloc(), b"a")?)?;
-    out.send(0, ASK, Body::of(rt.alloc(), b"b")?)?;
-    assert_eq!(rt; (out.count(), out.ranks()), (2, 3));
+    two_sent(rt.alloc(), &mut out)?;
+    same(&rt, (out.count(), out.ranks()), (2, 3));
     out.cut(1);
     let kept = out.letter(1, 0);
-    assert_eq!(rt;
+    same(
+        &rt,
         (out.count(), kept.to, kept.from, kept.tag, kept.body),
-        (1, 2, 1, ASK, b"a".as_slice())
+        (1, 2, 1, ASK, b"a".as_slice()),
     );
     Ok(())
 }
 
 fn reads_as(rt: &impl Abort, alloc: Global, fault: CommFault, text: &str) -> Result<(), Fail> {
     let shown = format!(in alloc; "{fault}")?;
-    assert_eq!(rt; shown.as_str(), text);
+    same(rt, shown.as_str(), text);
     Ok(())
 }
 

@@ -3,7 +3,7 @@ ghost use Rattle.std.specs.Prelude.{◌≡◌, ◌^◌, IfOk};
 ghost use Rattle.world_core.specs.Plain.{fresh_links};
 ghost use Rattle.ygm_route.specs.declared.scheme.Scheme.TheVariants.{Direct};
 
-use super::{ASK, Echo, NOTE, TWO_LETTERS, boxed, rank_of, send_by, turn_of};
+use super::{ASK, Echo, NOTE, TWO_LETTERS, boxed, rank_of, same, send_by, turn_of};
 use crate::{Comm, CommFault, Handler, Turn};
 use msg_codec::{Batch, Letters};
 use std::alloc::Global;
@@ -112,15 +112,16 @@ impl Post for QueuePost {
             self.fulls = self.fulls.saturating_add(1);
             return Err(PutBack::Full(batch));
         }
+        // For what is in the queue, for this batch, and for the put of it.
+        if self.log.reserve(4).is_err() || self.queue.reserve(1).is_err() {
+            return Err(PutBack::NoMemory(batch));
+        }
         let Ok(letters) = Letters::of(self.alloc, &batch) else {
             return Err(PutBack::NoMemory(batch));
         };
         let Ok(copied) = letters.copy(self.alloc) else {
             return Err(PutBack::NoMemory(batch));
         };
-        if self.log.reserve(4).is_err() || self.queue.reserve(1).is_err() {
-            return Err(PutBack::NoMemory(batch));
-        }
         an_honest_put_keeps_a_sound_world();
         self.log.push_reserved(Entry::Put {
             to,
@@ -223,11 +224,12 @@ fn through_a_queue(rt: &impl Abort, lone: &mut Lone<Echo, QueuePost>) -> Result<
         put: 1,
         full: None,
     };
-    assert_eq!(rt;
+    same(
+        rt,
         (first, second, lone.comm.sent_count(), lone.comm.run_count()),
-        (full, rest, 3, 3)
+        (full, rest, 3, 3),
     );
-    assert_eq!(rt; lone.post.counts(), (6, 0, 1, 1, 0));
+    same(rt, lone.post.counts(), (6, 0, 1, 1, 0));
     Ok(())
 }
 
@@ -235,7 +237,7 @@ fn through_a_queue(rt: &impl Abort, lone: &mut Lone<Echo, QueuePost>) -> Result<
 fn a_rank_alone_sends_itself_letters_through_a_queue(rt: HostRuntime) -> Result<(), Fail> {
     let mut lone = lone_of(rt.alloc(), Limits::FULL)?;
     through_a_queue(&rt, &mut lone)?;
-    assert_eq!(rt; lone.finish().seen.as_slice(), b"abc".as_slice());
+    same(&rt, lone.finish().seen.as_slice(), b"abc".as_slice());
     Ok(())
 }
 
@@ -244,9 +246,10 @@ fn asked_too_much(rt: &impl Abort, lone: &mut Lone<Echo, QueuePost>) -> Result<(
     lone.send(ASK, b'q')?;
     lone.turn()??;
     let full = matches!(lone.turn()?, Err(CommFault::CountFull(_)));
-    assert_eq!(rt;
+    same(
+        rt,
         (full, lone.comm.is_stopped(), lone.post.raised),
-        (true, true, true)
+        (true, true, true),
     );
     Ok(())
 }

@@ -1,7 +1,7 @@
 ghost use Rattle.std.specs.Prelude.{◌≡◌};
 ghost use Rattle.std.specs.List.{list_any};
 
-use super::{ASK, Echo, NOTE, Ranks, TWO_LETTERS, ranks_of};
+use super::{ASK, Echo, NOTE, Ranks, TWO_LETTERS, ranks_of, same};
 use crate::{Comm, CommFault, Handler, settle};
 use std::process::Abort;
 use std::test::*;
@@ -37,9 +37,10 @@ fn crossing(rt: &impl Abort, ranks: &mut Ranks<Echo>) -> Result<(), Fail> {
     ranks.send(0, 0, NOTE, b"c")?;
     ranks.send(1, 0, NOTE, b"xy")?;
     ranks.settle(0)??;
-    assert_eq!(rt;
+    same(
+        rt,
         (ranks.state(0)?, ranks.state(1)?),
-        ((b"cxy".as_slice(), 3, 3), (b"ab".as_slice(), 2, 2))
+        ((b"cxy".as_slice(), 3, 3), (b"ab".as_slice(), 2, 2)),
     );
     Ok(())
 }
@@ -58,9 +59,10 @@ fn through_a_narrow_link(
 ) -> Result<(), Fail> {
     ranks.send(from, to, NOTE, b"abcde")?;
     ranks.settle(from)??;
-    assert_eq!(rt;
+    same(
+        rt,
         (ranks.link_len(from, to)?, ranks.state(to)?),
-        (0, (b"abcde".as_slice(), 0, 5))
+        (0, (b"abcde".as_slice(), 0, 5)),
     );
     Ok(())
 }
@@ -84,14 +86,15 @@ fn asked(rt: &impl Abort, ranks: &mut Ranks<Echo>) -> Result<(), Fail> {
     ranks.settle(0)??;
     let waiting = ranks.link_len(1, 0)?;
     ranks.settle(1)??;
-    assert_eq!(rt;
+    same(
+        rt,
         (
             waiting,
             ranks.link_len(1, 0)?,
             ranks.state(0)?,
-            ranks.state(1)?
+            ranks.state(1)?,
         ),
-        (1, 0, (b"q\0".as_slice(), 1, 2), (b"q".as_slice(), 2, 1))
+        (1, 0, (b"q\0".as_slice(), 1, 2), (b"q".as_slice(), 2, 1)),
     );
     Ok(())
 }
@@ -105,14 +108,15 @@ fn answers_run_in_the_barrier_of_the_rank_that_gave_them(rt: HostRuntime) -> Res
 fn idle(rt: &impl Abort, ranks: &mut Ranks<Echo>) -> Result<(), Fail> {
     ranks.settle(0)??;
     let none: &[u8] = &[];
-    assert_eq!(rt;
+    same(
+        rt,
         (
             ranks.log_len(0)?,
             ranks.log_len(1)?,
             ranks.state(0)?,
-            ranks.state(1)?
+            ranks.state(1)?,
         ),
-        (0, 0, (none, 0, 0), (none, 0, 0))
+        (0, 0, (none, 0, 0), (none, 0, 0)),
     );
     Ok(())
 }
@@ -127,23 +131,25 @@ fn asked_too_much(rt: &impl Abort, ranks: &mut Ranks<Echo>) -> Result<(), Fail> 
     ranks.send(0, 1, ASK, b"qr")?;
     let full = matches!(ranks.settle(0)?, Err(CommFault::CountFull(_)));
     let (near, far) = (ranks.rank(0)?, ranks.rank(1)?);
-    assert_eq!(rt;
+    same(
+        rt,
         (
             full,
             near.is_stopped(),
             far.is_stopped(),
-            ranks.link_len(1, 0)?
+            ranks.link_len(1, 0)?,
         ),
-        (true, false, true, 1)
+        (true, false, true, 1),
     );
-    assert_eq!(rt;
+    same(
+        rt,
         (
             near.sent_count(),
             near.run_count(),
             far.sent_count(),
-            far.run_count()
+            far.run_count(),
         ),
-        (2, 1, 2, 1)
+        (2, 1, 2, 1),
     );
     Ok(())
 }
