@@ -216,12 +216,24 @@ impl<H: Handler> Ranks<H> {
         Ok(())
     }
 
-    fn turn(&mut self, rank: u32) -> Result<Result<Turn, CommFault>, Fail> {
+    fn try_turn(&mut self, rank: u32) -> Result<Result<Turn, CommFault>, Fail> {
         let rank = rank as usize;
         if rank >= self.comms.len() || self.comms[rank].is_stopped() {
             return Err("a rank that isn't stopped takes a turn".into());
         }
         Ok(turn_of(&mut self.comms[rank], &mut *self.links))
+    }
+
+    fn turn(&mut self, rank: u32) -> Result<Turn, Fail> {
+        Ok(self.try_turn(rank)??)
+    }
+
+    // Turns of ranks, one after another.
+    fn turns(&mut self, ranks: &[u32]) -> Result<(), Fail> {
+        for rank in ranks {
+            self.turn(*rank)?;
+        }
+        Ok(())
     }
 
     // the destinations of the batches that a rank put, and the lengths of their first bodies, as the log has them
@@ -263,9 +275,9 @@ impl Ranks<Echo> {
 
 fn straight(rt: &impl Abort, ranks: &mut Ranks<Echo>) -> Result<(), Fail> {
     ranks.send(1, 6, NOTE, b"a")?;
-    let put = ranks.turn(1)??.put;
+    let put = ranks.turn(1)?.put;
     let waiting = ranks.link_len(1, 6)?;
-    let took = ranks.turn(6)??.took;
+    let took = ranks.turn(6)?.took;
     same(
         rt,
         (put, waiting, took, ranks.state(6)?),
@@ -282,10 +294,7 @@ fn letters_go_straight_to_their_ranks(rt: HostRuntime) -> Result<(), Fail> {
 // Rank 0 asks, rank 1 answers twice, and rank 0 takes both answers.
 fn asked(rt: &impl Abort, ranks: &mut Ranks<Echo>) -> Result<(), Fail> {
     ranks.send(0, 1, ASK, b"q")?;
-    ranks.turn(0)??;
-    ranks.turn(1)??;
-    ranks.turn(0)??;
-    ranks.turn(0)??;
+    ranks.turns(&[0, 1, 0, 0])?;
     let (near, far) = (ranks.state(0)?, ranks.state(1)?);
     let put = ranks.put_by(1)?;
     same(
@@ -308,10 +317,10 @@ fn both_answers_of_a_handler_are_sent_in_order(rt: HostRuntime) -> Result<(), Fa
 // Two letters over a link that holds one batch.
 fn through_a_full_link(rt: &impl Abort, ranks: &mut Ranks<Echo>) -> Result<(), Fail> {
     ranks.send(0, 1, NOTE, b"ab")?;
-    let first = ranks.turn(0)??;
-    ranks.turn(1)??;
-    let second = ranks.turn(0)??;
-    ranks.turn(1)??;
+    let first = ranks.turn(0)?;
+    ranks.turn(1)?;
+    let second = ranks.turn(0)?;
+    ranks.turn(1)?;
     same(
         rt,
         (
@@ -357,9 +366,9 @@ fn a_rank_sends_as_many_letters_as_it_may(rt: HostRuntime) -> Result<(), Fail> {
 fn asked_too_much(rt: &impl Abort, ranks: &mut Ranks<Echo>) -> Result<(), Fail> {
     ranks.send(0, 1, ASK, b"q")?;
     ranks.send(1, 0, NOTE, b"n")?;
-    ranks.turn(0)??;
-    let full = matches!(ranks.turn(1)?, Err(CommFault::CountFull(_)));
-    let stopped = matches!(ranks.turn(0)?, Err(CommFault::Stopped));
+    ranks.turn(0)?;
+    let full = matches!(ranks.try_turn(1)?, Err(CommFault::CountFull(_)));
+    let stopped = matches!(ranks.try_turn(0)?, Err(CommFault::Stopped));
     let (near, far) = (ranks.rank(0)?, ranks.rank(1)?);
     same(
         rt,

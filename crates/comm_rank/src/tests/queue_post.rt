@@ -192,11 +192,15 @@ impl<H: Handler, P: Post + Drop> Lone<H, P> {
         Ok(())
     }
 
-    fn turn(&mut self) -> Result<Result<Turn, CommFault>, Fail> {
+    fn try_turn(&mut self) -> Result<Result<Turn, CommFault>, Fail> {
         if self.comm.is_stopped() {
             return Err("a rank that isn't stopped takes a turn".into());
         }
         Ok(turn_of(&mut *self.comm, &mut *self.post))
+    }
+
+    fn turn(&mut self) -> Result<Turn, Fail> {
+        Ok(self.try_turn()??)
     }
 
     fn finish(self) -> H {
@@ -210,10 +214,10 @@ fn through_a_queue(rt: &impl Abort, lone: &mut Lone<Echo, QueuePost>) -> Result<
     lone.send(NOTE, b'a')?;
     lone.send(NOTE, b'b')?;
     lone.send(NOTE, b'c')?;
-    let first = lone.turn()??;
-    let second = lone.turn()??;
-    lone.turn()??;
-    lone.turn()??;
+    let first = lone.turn()?;
+    let second = lone.turn()?;
+    lone.turn()?;
+    lone.turn()?;
     let full = Turn {
         took: 0,
         put: 2,
@@ -244,8 +248,8 @@ fn a_rank_alone_sends_itself_letters_through_a_queue(rt: HostRuntime) -> Result<
 // The rank may send one letter more, and is asked for two.
 fn asked_too_much(rt: &impl Abort, lone: &mut Lone<Echo, QueuePost>) -> Result<(), Fail> {
     lone.send(ASK, b'q')?;
-    lone.turn()??;
-    let full = matches!(lone.turn()?, Err(CommFault::CountFull(_)));
+    lone.turn()?;
+    let full = matches!(lone.try_turn()?, Err(CommFault::CountFull(_)));
     same(
         rt,
         (full, lone.comm.is_stopped(), lone.post.raised),

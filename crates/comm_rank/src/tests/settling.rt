@@ -15,11 +15,16 @@ fn is_any_stopped<H: Handler>(comms: &[Comm<H>]) -> bool
 
 impl<H: Handler> Ranks<H> {
     // The barrier of a rank, if no rank is stopped.
-    fn settle(&mut self, caller: u32) -> Result<Result<(), CommFault>, Fail> {
+    fn try_settle(&mut self, caller: u32) -> Result<Result<(), CommFault>, Fail> {
         if caller as usize >= self.comms.len() || is_any_stopped(&self.comms) {
             return Err("a barrier is of a rank of a world that goes on".into());
         }
         Ok(settle(&mut self.comms, &mut self.links, caller))
+    }
+
+    fn settle(&mut self, caller: u32) -> Result<(), Fail> {
+        self.try_settle(caller)??;
+        Ok(())
     }
 
     // how many batches a rank put and took
@@ -36,7 +41,7 @@ fn crossing(rt: &impl Abort, ranks: &mut Ranks<Echo>) -> Result<(), Fail> {
     ranks.send(0, 1, NOTE, b"ab")?;
     ranks.send(0, 0, NOTE, b"c")?;
     ranks.send(1, 0, NOTE, b"xy")?;
-    ranks.settle(0)??;
+    ranks.settle(0)?;
     same(
         rt,
         (ranks.state(0)?, ranks.state(1)?),
@@ -58,7 +63,7 @@ fn through_a_narrow_link(
     to: u32,
 ) -> Result<(), Fail> {
     ranks.send(from, to, NOTE, b"abcde")?;
-    ranks.settle(from)??;
+    ranks.settle(from)?;
     same(
         rt,
         (ranks.link_len(from, to)?, ranks.state(to)?),
@@ -83,9 +88,9 @@ fn a_barrier_runs_as_many_at_a_lower_rank(rt: HostRuntime) -> Result<(), Fail> {
 // The barrier of a rank that asks, and then that of the rank that answered.
 fn asked(rt: &impl Abort, ranks: &mut Ranks<Echo>) -> Result<(), Fail> {
     ranks.send(0, 1, ASK, b"q")?;
-    ranks.settle(0)??;
+    ranks.settle(0)?;
     let waiting = ranks.link_len(1, 0)?;
-    ranks.settle(1)??;
+    ranks.settle(1)?;
     same(
         rt,
         (
@@ -106,7 +111,7 @@ fn answers_run_in_the_barrier_of_the_rank_that_gave_them(rt: HostRuntime) -> Res
 
 // A barrier with nothing sent.
 fn idle(rt: &impl Abort, ranks: &mut Ranks<Echo>) -> Result<(), Fail> {
-    ranks.settle(0)??;
+    ranks.settle(0)?;
     let none: &[u8] = &[];
     same(
         rt,
@@ -129,7 +134,7 @@ fn a_barrier_with_nothing_sent_changes_nothing(rt: HostRuntime) -> Result<(), Fa
 // A rank that may send two letters is asked for four: only that rank is stopped.
 fn asked_too_much(rt: &impl Abort, ranks: &mut Ranks<Echo>) -> Result<(), Fail> {
     ranks.send(0, 1, ASK, b"qr")?;
-    let full = matches!(ranks.settle(0)?, Err(CommFault::CountFull(_)));
+    let full = matches!(ranks.try_settle(0)?, Err(CommFault::CountFull(_)));
     let (near, far) = (ranks.rank(0)?, ranks.rank(1)?);
     same(
         rt,

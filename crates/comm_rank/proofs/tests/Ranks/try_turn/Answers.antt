@@ -6,7 +6,7 @@ use Rattle.world_core.specs.Post.{SamePost}
 use Rattle.comm_rank.specs.Agrees.{Belongs}
 use Rattle.comm_rank.specs.Rank.{Rank}
 use Rattle.comm_rank.proofs.Settled.AreRanks.{belongs, other_stays, stand_set, stays}
-use Rattle.comm_rank.proofs.tests.Ranks.turn.Goals as goal
+use Rattle.comm_rank.proofs.tests.Ranks.try_turn.Goals as goal
 
 pub turn_of-requires : goal.turn_of-requires
 turn_of-requires g c =

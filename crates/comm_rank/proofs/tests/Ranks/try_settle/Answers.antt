@@ -6,7 +6,7 @@ use Rattle.world_core.specs.Plain.{Plain}
 use Rattle.comm_rank.specs.Rank.{Rank}
 use Rattle.comm_rank.specs.Settled.{AreRanks}
 use Rattle.comm_rank.proofs.Settled.AreRanks.{Stand, all_ranks, stand_settled}
-use Rattle.comm_rank.proofs.tests.Ranks.settle.Goals as goal
+use Rattle.comm_rank.proofs.tests.Ranks.try_settle.Goals as goal
 
 pub settle-requires-clause-ranks : goal.settle-requires-clause-ranks
 settle-requires-clause-ranks g c =
