@@ -1,4 +1,5 @@
 pub mod Bytes
+pub mod Controls
 pub mod Placed
 pub mod Reading
 pub mod Spelling

@@ -1,6 +1,8 @@
 pub mod Bytes
+pub mod Control
 pub mod Count
 pub mod Cut
+pub mod Kept
 pub mod Laws
 pub mod Letter
 pub mod Limits

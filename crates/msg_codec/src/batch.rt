@@ -1,14 +1,15 @@
 //! Many letters in one piece.
 ghost use Rattle.std.specs.Prelude.{All, ◌≡◌, ◌<◌, ◌≤◌, ◌+◌, [], ◌∷◌, ◌++◌, length, drop, slice_get, Some, IfOk, OnOk, OnErr};
-ghost use Rattle.std.specs.Int.{to_le_bytes};
+ghost use Rattle.msg_codec.specs.Control.{letter_of_control};
 ghost use Rattle.msg_codec.specs.Letter.{letter_of};
 ghost use Rattle.msg_codec.specs.Limits.{max_body};
 ghost use Rattle.msg_codec.specs.Placed.{stated_length, first_letter, Fits, IsHeld};
-ghost use Rattle.msg_codec.specs.Spelling.{header, spelled_letter, spelling};
+ghost use Rattle.msg_codec.specs.Spelling.{spelling};
 
-use crate::LetterRef;
-use crate::body::length_field;
+use crate::control::encoded;
+use crate::encoding::Encoding;
 use crate::letter::HEADER_LEN;
+use crate::{Control, LetterRef};
 use std::alloc::{AllocError, Global};
 use std::marker::Model;
 
@@ -16,7 +17,7 @@ use std::marker::Model;
 /// so that a batch of one letter keeps no start.
 #[derive(Debug, Drop)]
 pub struct Batch {
-    bytes: Vec<u8>,
+    bytes: Encoding,
     later_starts: Vec<usize>,
 }
 
@@ -27,35 +28,9 @@ impl Model for Batch {
 
     ghost Value = { List Letter };
 
-    ghost view = { λ batch. letters_at batch.bytes.items (starts_of batch.bytes.items batch.later_starts.items) };
+    ghost view = { λ batch. letters_at batch.bytes (starts_of batch.bytes batch.later_starts.items) };
 
-    ghost invariant = { λ batch. IsBatch batch.bytes.items (starts_of batch.bytes.items batch.later_starts.items) };
-}
-
-/// The header of a letter.
-fn header_of(letter: &LetterRef<'_>) -> [u8; 13]
-    ensures header { result ≡ header (letter_of letter.now) }
-    ensures fits { Fits (letter_of letter.now) }
-{
-    let to = letter.to.to_le_bytes();
-    let from = letter.from.to_le_bytes();
-    let len = length_field(letter.body);
-    [
-        to[0], to[1], to[2], to[3], from[0], from[1], from[2], from[3], letter.tag, len[0], len[1],
-        len[2], len[3],
-    ]
-}
-
-/// Appends the letter's encoding, or nothing if out of memory.
-fn append(bytes: &mut Vec<u8>, letter: &LetterRef<'_>) -> Result<(), AllocError>
-    ensures ok { OnOk result (bytes.new.items ≡ bytes.old.items ++ spelled_letter (letter_of letter.now)) }
-    ensures err { OnErr result (bytes.new.items ≡ bytes.old.items) }
-    ensures fits { OnOk result (Fits (letter_of letter.now)) }
-{
-    bytes.reserve(letter.spelled_len())?;
-    bytes.extend_from_slice(&header_of(letter))?;
-    bytes.extend_from_slice(letter.body)?;
-    Ok(())
+    ghost invariant = { λ batch. IsBatch batch.bytes (starts_of batch.bytes batch.later_starts.items) };
 }
 
 /// The letter that the bytes begin with.
@@ -103,7 +78,17 @@ impl Batch {
         ensures { result ≡ [] }
     {
         Batch {
-            bytes: Vec::new(alloc),
+            bytes: Encoding::empty(alloc),
+            later_starts: Vec::new(alloc),
+        }
+    }
+
+    /// The batch of one control letter. It takes no memory.
+    pub fn of_control(alloc: Global, control: Control) -> Batch
+        ensures { result ≡ letter_of_control control ∷ [] }
+    {
+        Batch {
+            bytes: Encoding::in_place(alloc, encoded(control)),
             later_starts: Vec::new(alloc),
         }
     }
@@ -113,12 +98,12 @@ impl Batch {
         ensures last { OnOk result (self.new ≡ self.old ++ letter_of letter.entry ∷ []) }
         ensures unchanged { OnErr result (self.new ≡ self.old) }
     {
-        let start = self.bytes.len();
+        let start = self.bytes.as_slice().len();
         if start == 0 {
-            return append(&mut self.bytes, &letter);
+            return self.bytes.append(&letter);
         }
         self.later_starts.reserve(1)?;
-        append(&mut self.bytes, &letter)?;
+        self.bytes.append(&letter)?;
         self.later_starts.push_reserved(start);
         Ok(())
     }
@@ -128,7 +113,7 @@ impl Batch {
         ensures { IfOk result (λ batch. batch ≡ self.now) }
     {
         Ok(Batch {
-            bytes: Vec::from_slice(alloc, &self.bytes)?,
+            bytes: self.bytes.copy(alloc)?,
             later_starts: Vec::from_slice(alloc, &self.later_starts)?,
         })
     }
@@ -137,7 +122,7 @@ impl Batch {
     pub fn count(&self) -> u64
         ensures { result ≡ length self.now }
     {
-        if self.bytes.is_empty() {
+        if self.bytes.as_slice().is_empty() {
             return 0;
         }
         self.later_starts.len() as u64 + 1
@@ -147,7 +132,7 @@ impl Batch {
     pub fn bytes_len(&self) -> usize
         ensures { result ≡ length (spelling self.now) }
     {
-        self.bytes.len()
+        self.bytes.as_slice().len()
     }
 
     /// The letter at place `k`, counted from 0, in constant time and without a copy.
@@ -156,7 +141,7 @@ impl Batch {
         ensures { slice_get self.now k ≡ Some (letter_of result) }
     {
         let start = start_at(&self.later_starts, k);
-        read_at(&self.bytes, start)
+        read_at(self.bytes.as_slice(), start)
     }
 
     /// The encoding of its letters.

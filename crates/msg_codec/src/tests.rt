@@ -1,3 +1,6 @@
+ghost use Rattle.std.specs.Prelude.{◌≤◌, length};
+ghost use Rattle.msg_codec.specs.Limits.{max_body};
+
 use super::*;
 use std::alloc::AllocError;
 use std::test::*;
@@ -5,6 +8,16 @@ use std::test::*;
 const AB: [u8; 15] = [2, 0, 0, 0, 0, 0, 0, 0, 1, 2, 0, 0, 0, 97, 98];
 
 const X_ONCE: [u8; 13] = [1, 0, 0, 0, 120, 1, 0, 0, 0, 0, 0, 0, 0];
+
+const COUNT_OF_RANK_3: [u8; 37] = [
+    0, 0, 0, 0, 3, 0, 0, 0, 240, 24, 0, 0, 0, 1, 0, 0, 0, 0, 0, 0, 0, 2, 1, 0, 0, 0, 0, 0, 0, 0, 0,
+    1, 0, 0, 0, 0, 0,
+];
+
+const TOTAL_TO_RANK_2: [u8; 37] = [
+    2, 0, 0, 0, 0, 0, 0, 0, 241, 24, 0, 0, 0, 0, 0, 0, 0, 0, 0, 0, 0, 5, 0, 0, 0, 0, 0, 0, 0, 4, 0,
+    0, 0, 0, 0, 0, 0,
+];
 
 #[test]
 fn a_batch_is_the_spelling_of_its_letters(rt: HostRuntime) -> Result<(), Fail> {
@@ -67,6 +80,53 @@ fn letters_are_those_of_their_batch(rt: HostRuntime) -> Result<(), Fail> {
     assert_eq!(rt; (second.to, second.from, second.tag), (0, 2, 239));
     assert!(rt; second.body.is_empty());
     Ok(())
+}
+
+#[test]
+fn a_batch_of_a_control_holds_its_letter_alone(rt: HostRuntime) -> Result<(), Fail> {
+    let count = Control::Count {
+        rank: 3,
+        q: 1,
+        s: 258,
+        r: 65_536,
+    };
+    let mut batch = Batch::of_control(rt.alloc(), count);
+    assert_eq!(rt; batch.as_bytes(), COUNT_OF_RANK_3.as_slice());
+    assert!(rt; control_of(batch.letter_at(0)) == Some(count));
+    let total = Control::Total {
+        to: 2,
+        q: 0,
+        s: 5,
+        r: 4,
+    };
+    let other = Batch::of_control(rt.alloc(), total);
+    assert_eq!(rt; other.as_bytes(), TOTAL_TO_RANK_2.as_slice());
+    batch.push(other.letter_at(0))?;
+    assert_eq!(rt; &batch.as_bytes()[37..], TOTAL_TO_RANK_2.as_slice());
+    assert!(rt; control_of(batch.letter_at(1)) == Some(total));
+    Ok(())
+}
+
+fn is_control(to: u32, from: u32, tag: u8, body: &[u8]) -> bool
+    requires { length body.now ≤ max_body }
+{
+    let letter = LetterRef {
+        to,
+        from,
+        tag,
+        body,
+    };
+    control_of(letter).is_some()
+}
+
+#[test]
+fn other_letters_are_no_control_letters(rt: HostRuntime) {
+    let body = &COUNT_OF_RANK_3[13..];
+    assert!(rt; is_control(0, 3, 240, body));
+    assert!(rt; !is_control(1, 3, 240, body));
+    assert!(rt; !is_control(0, 3, 241, body));
+    assert!(rt; !is_control(0, 0, 242, body));
+    assert!(rt; !is_control(0, 3, 240, &body[1..]));
 }
 
 #[test]
@@ -152,4 +212,6 @@ fn the_laws_hold_at_the_types_of_bodies() {
     no_spelling_begins_another::<(Body, u64)>();
     what_was_put_is_read_again::<(Body, u64)>();
     no_two_lists_are_spelled_alike();
+    controls_have_letters_of_their_own();
+    control_letters_are_these();
 }

@@ -7,10 +7,10 @@ use Rattle.msg_codec.specs.declared.letter.Letter.{Letter}
 use Rattle.msg_codec.specs.Spelling.{spelled_letter}
 use Rattle.msg_codec.specs.Placed.{Fits, stated_length, first_letter}
 
-abbrev made : ℕ → ℕ → ℕ → List ℕ → Letter
+abbrev pub made : ℕ → ℕ → ℕ → List ℕ → Letter
 made to from tag body = record { to = to; from = from; tag = tag; body = body }
 
-same_letter : (a b c d e f : ℕ) (x y : List ℕ) → a ≡ b → c ≡ d → e ≡ f → x ≡ y → made a c e x ≡ made b d f y
+pub same_letter : (a b c d e f : ℕ) (x y : List ℕ) → a ≡ b → c ≡ d → e ≡ f → x ≡ y → made a c e x ≡ made b d f y
 same_letter a b c d e f x y p q r s = cc
 
 pub stated_again : (l : Letter) (rest : List ℕ) → Fits l → stated_length (spelled_letter l ++ rest) ≡ length l.body

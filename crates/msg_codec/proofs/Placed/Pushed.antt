@@ -3,9 +3,10 @@ use Rattle.std.proofs.Common.{◌≡◌, ◌≢◌, ℕ, ◌+◌, List, [], ◌�
 use Rattle.std.specs.Prelude.{OnOk, OnErr}
 use Rattle.std.specs.declared.alloc.AllocError.{AllocError}
 use Rattle.std.proofs.lemmas.List.{append-nil}
-use Rattle.std.proofs.lemmas.List.Elements.{All-push}
+use Rattle.std.proofs.lemmas.List.Elements.{All-nil, All-push}
 use Rattle.std.proofs.lemmas.Grind.{flat_map-append}
 use Rattle.msg_codec.specs.declared.letter.Letter.{Letter}
+use Rattle.msg_codec.specs.Kept.{LetterAppended}
 use Rattle.msg_codec.specs.Spelling.{header, spelled_letter, spelling}
 use Rattle.msg_codec.specs.Placed.{Fits, letters_at, starts_of, places_from, IsBatch}
 use Rattle.msg_codec.proofs.Placed.Letters.{is_batch, letters_again, none_later}
@@ -51,13 +52,18 @@ is_put done bytes later new newer l one new-is starts-are =
 
 -- the first letter begins at 0, which isn't kept
 pub first_put : (answer : Result (Unit {0}) AllocError) (bytes later new : List ℕ) (l : Letter) → IsBatch bytes (starts_of bytes later) → length bytes ≡ 0
-    → OnOk answer (new ≡ bytes ++ spelled_letter l) → OnErr answer (new ≡ bytes) → OnOk answer (Fits l) → IsPut answer bytes later new later l
-first_put (Err full) bytes later new l batch none put kept fits = record { letters = tt; whole = rw kept batch }
-first_put (Ok done) [] later new l batch none put kept fits =
-    is_put done [] later new later l (pushed [] later l batch fits) put (rw (put, none_later later batch) refl)
-first_put (Ok done) (b ∷ bytes) later new l batch none put kept fits = absurd (omega arith)
+    → OnOk answer (LetterAppended bytes new l) → OnErr answer (new ≡ bytes) → IsPut answer bytes later new later l
+first_put (Err full) bytes later new l batch none put kept = record { letters = tt; whole = rw kept batch }
+first_put (Ok done) [] later new l batch none put kept =
+    is_put done [] later new later l (pushed [] later l batch put.fits) put.bytes (rw (put.bytes, none_later later batch) refl)
+first_put (Ok done) (b ∷ bytes) later new l batch none put kept = absurd (omega arith)
 
-pub later_put : (bytes later new newer : List ℕ) (l : Letter) → IsBatch bytes (starts_of bytes later) → length bytes ≢ 0 → new ≡ bytes ++ spelled_letter l → newer ≡ later ++ length bytes ∷ [] → Fits l → IsPut (Ok tt) bytes later new newer l
-later_put [] later new newer l batch some put start-put fits = absurd (some refl)
-later_put (b ∷ bytes) later new newer l batch some put start-put fits =
-    is_put tt (b ∷ bytes) later new newer l (pushed (b ∷ bytes) (0 ∷ later) l batch fits) put (rw (put, start-put) refl)
+pub later_put : (bytes later new newer : List ℕ) (l : Letter) → IsBatch bytes (starts_of bytes later) → length bytes ≢ 0 → LetterAppended bytes new l → newer ≡ later ++ length bytes ∷ [] → IsPut (Ok tt) bytes later new newer l
+later_put [] later new newer l batch some put start-put = absurd (some refl)
+later_put (b ∷ bytes) later new newer l batch some put start-put =
+    is_put tt (b ∷ bytes) later new newer l (pushed (b ∷ bytes) (0 ∷ later) l batch put.fits) put.bytes (rw (put.bytes, start-put) refl)
+
+-- a batch of one letter
+pub one_put : (bytes later : List ℕ) (l : Letter) → later ≡ [] → bytes ≡ spelled_letter l → Fits l → IsPut (Ok tt) [] [] bytes later l
+one_put bytes later l none spelled fits =
+    rw none (first_put (Ok tt) [] [] bytes l (is_batch [] (All-nil Fits)) refl (record { bytes = spelled; fits = fits }) tt)

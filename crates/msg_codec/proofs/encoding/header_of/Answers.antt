@@ -1,5 +1,5 @@
 use Rattle.std.proofs.Common.{arith}
-use Rattle.msg_codec.proofs.batch.header_of.Goals as goal
+use Rattle.msg_codec.proofs.encoding.header_of.Goals as goal
 
 pub returns-clause-fits : goal.returns-clause-fits
 returns-clause-fits c = record {

@@ -1,0 +1,4 @@
+pub mod Body
+pub mod Examples
+pub mod Found
+pub mod Letters
