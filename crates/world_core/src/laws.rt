@@ -1,6 +1,6 @@
 //! What keeps a world sound. Each law is the contract of a function that does nothing, so a caller may rely on
 //! it. The laws speak of logs alone, whatever carries the letters.
-ghost use Rattle.std.specs.Prelude.{◌≡◌, ◌↔◌, ◌^◌, true, ℕ, List, [], ◌∷◌, None, Some, length, slice_get};
+ghost use Rattle.std.specs.Prelude.{◌≡◌, ◌↔◌, ◌<◌, ◌^◌, true, ℕ, List, [], ◌∷◌, None, Some, length, slice_get};
 ghost use Rattle.world_core.specs.Worked.{start, one, one_put};
 ghost use Rattle.world_core.specs.declared.entry.Event.TheVariants.{Put as PutEvent, Take};
 ghost use Rattle.world_core.specs.declared.why.Why.TheVariants.{NothingThere};
@@ -8,6 +8,7 @@ ghost use Rattle.msg_codec.specs.declared.letter.Letter.{Letter};
 ghost use Rattle.ygm_route.specs.declared.scheme.Scheme.{Scheme};
 ghost use Rattle.ygm_route.specs.Layout.{IsLayout, Shape};
 ghost use Rattle.world_core.specs.declared.entry.Entry.TheVariants.{Put, Took};
+ghost use Rattle.world_core.specs.Local.{Local};
 ghost use Rattle.world_core.specs.Limits.{data_tags, most_arrived, most_batches, most_letters, most_rounds};
 ghost use Rattle.world_core.specs.Log.{batches_put, batches_taken};
 ghost use Rattle.world_core.specs.Modest.{IsWorld};
@@ -28,6 +29,12 @@ pub fn an_honest_put_keeps_a_sound_world()
     ensures { (world : Logs) (from to : ℕ) (letters : List Letter) → IsWorld world →
         first_broken (local world from) (Puts to letters) ≡ None →
         IsWorld (gaining world from (Put to letters)) }
+{}
+
+/// An honest put is over a link between ranks of the world.
+pub fn an_honest_put_is_between_ranks()
+    ensures { (me : Local) (to : ℕ) (letters : List Letter) → first_broken me (Puts to letters) ≡ None →
+        (me.here < me.layout.ranks) × (to < me.layout.ranks) }
 {}
 
 /// Taking the next batch of a link keeps a sound world sound. The next batch is the first that the sender's log
