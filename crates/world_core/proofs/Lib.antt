@@ -1,3 +1,4 @@
+pub mod Counts
 pub mod Deeds
 pub mod Desks
 pub mod Kept
@@ -9,4 +10,5 @@ pub mod Plain
 pub mod Posts
 pub mod Replays
 pub mod Sound
+pub mod Wave
 pub mod Worlds
