@@ -1,3 +1,4 @@
 pub mod Appended
 pub mod Numbers
 pub mod OfPair
+pub mod Stepwise
