@@ -1,3 +1,4 @@
+pub mod Counts
 pub mod Deeds
 pub mod Desks
 pub mod Kept
