@@ -10,4 +10,5 @@ pub mod Plain
 pub mod Posts
 pub mod Replays
 pub mod Sound
+pub mod Wave
 pub mod Worlds
