@@ -1,1 +1,3 @@
 pub mod Balanced
+pub mod Ended
+pub mod Grown
