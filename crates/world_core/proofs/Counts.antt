@@ -1,1 +1,2 @@
+pub mod AfterPut
 pub mod BeforeCount

@@ -1,3 +1,4 @@
 pub mod Appended
+pub mod ByPair
 pub mod Numbers
 pub mod OfPair

@@ -13,16 +13,17 @@ use Rattle.world_core.specs.declared.entry.Entry.TheVariants.{Put, Took}
 use Rattle.world_core.specs.Limits.{most_letters}
 use Rattle.world_core.specs.Local.{Local, local_rank}
 use Rattle.world_core.specs.Log.{batches_put, letters_of}
-use Rattle.world_core.specs.Pairs.{of_pair, own, pair_put, pair_taken}
+use Rattle.world_core.specs.Pairs.{of_pair, own_count, pair_put, pair_taken}
 use Rattle.world_core.specs.Rules.{first_broken, IsHonest}
 use Rattle.world_core.specs.Rules.Deed.{Puts}
 use Rattle.list_facts.specs.Prefix.{IsPrefix}
 use Rattle.world_core.proofs.Deeds.AfterPut.{forward_batch, own_batch}
-use Rattle.world_core.proofs.Pairs.Appended.{pair_put-put, own-put, pair_taken-put, pair_put-took, pair_taken-took}
+use Rattle.world_core.proofs.Pairs.Appended.{pair_put-put, pair_taken-put, pair_put-took, pair_taken-took}
+use Rattle.world_core.proofs.Pairs.Numbers.{own_count-put, own_count-took, sent_number-nil}
 use Rattle.world_core.proofs.Deeds.Unbroken.{Unbroken, unbroken, sender_within, receiver_within}
 use Rattle.world_core.proofs.Deeds.Sent.{IsSent, sent}
 use Rattle.world_core.proofs.Local.Between.{IsThird}
-use Rattle.world_core.proofs.Log.Appended.{batches_put-put, batches_put-took, letters_put-took}
+use Rattle.world_core.proofs.Log.Appended.{batches_put-put, batches_put-took}
 use Rattle.list_facts.proofs.Tests.{or_false_second}
 use Rattle.std.proofs.lemmas.Bool.{cases_lt}
 use Rattle.std.proofs.Math.Seq.{take-append_seam, take-length}
@@ -32,7 +33,7 @@ use Rattle.std.proofs.lemmas.Option.{same_Some, slice_get-get_or, slice_get_with
 pub record Alone (me : Local) : Type 0 where
   pub carry : (to : ℕ) → AllByRecursion (IsSent me.layout me.scheme me.here to) (letters_of (batches_put to me.log))
   pub forward : (s d : ℕ) → IsThird me.layout s d me.here → IsPrefix (pair_put s d me.log) (pair_taken s d me.log)
-  pub few : length (own me.here me.log) ≤ most_letters
+  pub few : own_count me.here me.log ≤ most_letters
   pub targets : (to : ℕ) → me.layout.ranks ≤ to → batches_put to me.log ≡ []
 
 abbrev pub after : Local → Entry → Local
@@ -43,7 +44,7 @@ one_batch true batch = append-nil batch
 one_batch false batch = refl
 
 pub alone_nil : (layout : Shape) (scheme : Scheme) (here : ℕ) → Alone (local_rank layout scheme here [])
-alone_nil layout scheme here = record { carry = λ to. tt; forward = λ s d third. prefix_refl []; few = omega arith; targets = λ to past. refl }
+alone_nil layout scheme here = record { carry = λ to. tt; forward = λ s d third. prefix_refl []; few = rw (sent_number-nil here) (omega arith); targets = λ to past. refl }
 
 pub alone_put : (me : Local) (to : ℕ) (letters : List Letter) → Alone me → Unbroken me to letters → Alone (after me (Put to letters))
 alone_put me to letters alone ok = record {
@@ -58,7 +59,7 @@ alone_put me to letters alone ok = record {
   forward = λ s d third.
       let start : IsPrefix (pair_put s d me.log ++ of_pair s d []) (pair_taken s d me.log) = rw (append-nil (pair_put s d me.log)) (alone.forward s d third) in
       rw (pair_put-put s d me.log to letters, pair_taken-put s d me.log to letters) (forward_batch me to s d [] letters third ok.held start);
-  few = rw (own-put me.here me.log to letters) (own_batch me to [] letters ok.few (rw (append-nil (own me.here me.log)) alone.few));
+  few = rw (own_count-put me.here me.log to letters) (own_batch me to [] letters ok.few (omega (arith, alone.few, sent_number-nil me.here)));
   targets = λ rank past.
       let within : to < me.layout.ranks = receiver_within me to letters ok.ranks in
       let apart : nat_eq to rank ≡ false = ne_eqb to rank (λ e. absurd (omega arith)) in
@@ -70,7 +71,7 @@ alone_took me from letters alone = record {
   carry = λ rank. rw (batches_put-took me.log from rank letters) (alone.carry rank);
   forward = λ s d third. rw (pair_put-took s d me.log from letters, pair_taken-took s d me.log from letters)
       (prefix_longer (of_pair s d letters) (alone.forward s d third));
-  few = rw (letters_put-took me.log from letters) alone.few;
+  few = rw (own_count-took me.here me.log from letters) alone.few;
   targets = λ rank past. batches_put-took me.log from rank letters ∙ alone.targets rank past;
 }
 

@@ -14,13 +14,14 @@ use Rattle.ygm_route.proofs.Path.Places.{standing, is_sender, is_destination, is
 use Rattle.world_core.specs.Limits.{most_letters}
 use Rattle.world_core.specs.Log.{letters_put}
 use Rattle.world_core.specs.Modest.{IsWorld}
-use Rattle.world_core.specs.Pairs.{is_of_pair, own, pair_put, pair_taken}
+use Rattle.world_core.specs.Pairs.{is_of_pair, own_count, pair_put, pair_taken}
 use Rattle.list_facts.specs.Prefix.{IsPrefix}
 use Rattle.world_core.specs.World.{Logs, log_of}
 use Rattle.world_core.proofs.Sound.FromHonest.{link_carries}
 use Rattle.world_core.proofs.Deeds.Sent.{IsCarried}
 use Rattle.world_core.proofs.Local.Between.{IsThird}
-use Rattle.world_core.proofs.Pairs.OfPair.{pair_of_sender, pair_of}
+use Rattle.world_core.proofs.Pairs.Numbers.{pair_within_sent}
+use Rattle.world_core.proofs.Pairs.OfPair.{pair_of, pair_data}
 use Rattle.world_core.proofs.Modest.EachEvent.{base_of}
 use Rattle.list_facts.proofs.Elements.{all_weaker}
 use Rattle.list_facts.proofs.Prefix.{prefix_length, prefix_trans}
@@ -64,19 +65,19 @@ module _ (world : Logs) (w : IsWorld world) where
             (link_carries world (base_of world w) s d s f ranks first)
       ]
 
-  pub few_own : (rank : ℕ) → length (own rank (log_of world rank)) ≤ most_letters
+  pub few_own : (rank : ℕ) → own_count rank (log_of world rank) ≤ most_letters
   few_own rank = (alone world (base_of world w) rank).few
 
   few_of_sender : (s d : ℕ) → length (pair_put s d (log_of world s)) ≤ most_letters
-  few_of_sender s d = le_trans (pair_of_sender s d (letters_put (log_of world s))) (few_own s)
+  few_of_sender s d = le_trans (pair_within_sent s d (letters_put (log_of world s))) (few_own s)
 
   -- a rank that puts a letter of another rank is between its ends
   stands : (s d r b : ℕ) → s ≢ r → (l : Letter) → IsCarried world.layout world.scheme r b l → is_of_pair s d l ≡ true → Between world.layout world.scheme s d r
   stands s d r b other l c h =
       let ranks : AreRanks world.layout l.from l.to = record { laid_out = w.sound.laid_out; from_within = c.lawful.from_within; to_within = c.lawful.to_within } in
       let here : l.from ≢ r → Between world.layout world.scheme l.from l.to r = λ apart. record {
-        third = record { from_within = ranks.from_within; to_within = ranks.to_within; not_sender = λ e. apart (sym e); not_destination = c.lawful.leaves apart };
-        passed = link_start world.layout world.scheme l.from l.to r b ranks c.crossed;
+        third = record { from_within = ranks.from_within; to_within = ranks.to_within; not_sender = λ e. apart (sym e); not_destination = c.lawful.leaves (pair_data s d l h) apart };
+        passed = link_start world.layout world.scheme l.from l.to r b ranks (c.crossed (pair_data s d l h));
       } in
       let P : ℕ → ℕ → Type 0 = λ x y. x ≢ r → Between world.layout world.scheme x y r in
       let pair = pair_of s d l h in
