@@ -1,3 +1,4 @@
 pub mod Balanced
 pub mod Ended
+pub mod Established
 pub mod Grown
