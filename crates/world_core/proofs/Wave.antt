@@ -1,1 +1,4 @@
 pub mod Balanced
+pub mod Ended
+pub mod Established
+pub mod Grown
