@@ -6,3 +6,4 @@ pub mod Sent
 pub mod SomeLetter
 pub mod Table
 pub mod Unbroken
+pub mod Unmixed
