@@ -1,2 +1,3 @@
 pub mod AfterPut
 pub mod BeforeCount
+pub mod TrueCounts

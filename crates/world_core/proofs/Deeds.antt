@@ -7,3 +7,4 @@ pub mod Sent
 pub mod SomeLetter
 pub mod Table
 pub mod Unbroken
+pub mod Unmixed

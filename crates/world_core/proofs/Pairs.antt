@@ -2,3 +2,4 @@ pub mod Appended
 pub mod ByPair
 pub mod Numbers
 pub mod OfPair
+pub mod Unchanged

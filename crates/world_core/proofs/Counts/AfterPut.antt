@@ -1,8 +1,7 @@
 -- The numbers that the rules look at, after a put. Each rule tries the first letter of a batch after a put of an empty batch.
-use Rattle.std.proofs.Common.{◌≡◌, ℕ, zero, suc, ◌+◌, pred, Bool, true, false, cond, not, ◌&&◌, ◌||◌, nat_eq, nat_lt, is_some, List, [], ◌∷◌, ◌++◌, length, filter, refl, ap, ◌∙◌, append-nil, if◌then◌else◌, length-append}
+use Rattle.std.proofs.Common.{◌≡◌, ℕ, zero, suc, ◌+◌, pred, Bool, true, false, cond, not, ◌&&◌, ◌||◌, nat_eq, nat_lt, is_some, List, [], ◌∷◌, ◌++◌, length, filter, refl, ap, ◌∙◌, append-nil, if◌then◌else◌, arith}
 use Rattle.std.specs.List.{find, list_any}
 use Rattle.std.proofs.lemmas.Grind.{flat_map-append}
-use Rattle.std.proofs.lemmas.List.Elements.{filter-append}
 use Rattle.list_facts.proofs.Below.{some_below-same}
 use Rattle.list_facts.proofs.Sums.{sum_upto-same}
 use Rattle.list_facts.specs.Below.{some_below}
@@ -16,26 +15,20 @@ use Rattle.world_core.specs.Local.{Local, having_put, to_forward}
 use Rattle.world_core.specs.Log.{batches_put, letters_of, letters_put, letters_taken, letters_taken_by}
 use Rattle.world_core.specs.Pairs.{own_count, pair_put, run_count, run_number, sent_number}
 use Rattle.world_core.specs.Rounds.{barrier_start, first_round, rounds_known, sums_in, sums_told}
+use Rattle.world_core.proofs.Counts.BeforeCount.{counts-append}
 use Rattle.world_core.proofs.Log.Appended.{batches_put-put, batches_taken-put, letters_put-put, letters_taken-put}
 use Rattle.world_core.proofs.Pairs.Appended.{pair_put-put, pair_taken-put}
+use Rattle.world_core.proofs.Pairs.Numbers.{run_count-put}
 
 -- ---- the Counts of a log with one entry more
 
 pub counts-none : (log : List Entry) (entry : Entry) → puts_count entry ≡ false → counts (log ++ entry ∷ []) ≡ counts log
-counts-none log entry none =
-    let alone : filter puts_count (entry ∷ []) ≡ [] = rw none refl in
-    ap length (filter-append puts_count log (entry ∷ []) ∙ ap (λ xs. filter puts_count log ++ xs) alone ∙ append-nil (filter puts_count log))
+counts-none log entry none = let alone : counts (entry ∷ []) ≡ 0 = rw none refl in omega (arith, counts-append log (entry ∷ []))
 
 pub counts-one : (log : List Entry) (entry : Entry) → puts_count entry ≡ true → counts (log ++ entry ∷ []) ≡ counts log + 1
-counts-one log entry one =
-    let alone : filter puts_count (entry ∷ []) ≡ entry ∷ [] = rw one refl in
-    ap length (filter-append puts_count log (entry ∷ []) ∙ ap (λ xs. filter puts_count log ++ xs) alone)
-    ∙ length-append (filter puts_count log) (entry ∷ [])
+counts-one log entry one = let alone : counts (entry ∷ []) ≡ 1 = rw one refl in omega (arith, counts-append log (entry ∷ []))
 
 -- ---- after any put
-
-pub run_count-put : (rank : ℕ) (log : List Entry) (to : ℕ) (batch : List Letter) → run_count rank (log ++ Put to batch ∷ []) ≡ run_count rank log
-run_count-put rank log to batch = ap (run_number rank) (letters_taken-put log to batch)
 
 pub count_taken-put : (rank q : ℕ) (log : List Entry) (to : ℕ) (batch : List Letter) → count_taken rank q (log ++ Put to batch ∷ []) ≡ count_taken rank q log
 unfolding count_taken
@@ -164,4 +157,3 @@ run_taken-first me to q = sum_upto-same _ _ me.layout.ranks (λ j _. ap (λ o. (
 
 pub total_wrong-first : (me : Local) (to : ℕ) (l : Letter) → total_wrong (having_put me to []) to l ≡ total_wrong me to l
 total_wrong-first me to l = rw (sent_taken-first me to (round_of l), run_taken-first me to (round_of l)) refl
-

@@ -1,6 +1,6 @@
 -- The letters of a list by their pairs: those that run at a rank by their senders, and those that a rank sent by their
 -- destinations.
-use Rattle.std.proofs.Common.{◌≡◌, ◌⊎◌, ℕ, zero, suc, ◌+◌, ◌≤◌, ◌<◌, ◌&&◌, Bool, true, nat_eq, nat_lt, ltb-true, lt-ltb, eqb-true, eq-eqb, List, length, filter, refl, inl, inr, arith, le_trans}
+use Rattle.std.proofs.Common.{◌≡◌, ◌⊎◌, ℕ, zero, suc, ◌≤◌, ◌<◌, ◌&&◌, Bool, true, nat_eq, nat_lt, ltb-true, lt-ltb, eqb-true, eq-eqb, List, length, filter, refl, inl, inr, arith, le_trans}
 use Rattle.std.specs.List.{AllByRecursion}
 use Rattle.std.proofs.lemmas.Bool.{cases_lt}
 use Rattle.list_facts.specs.Sums.{sum_upto}
