@@ -3,3 +3,4 @@ pub mod Ended
 pub mod Established
 pub mod Grown
 pub mod HeldBack
+pub mod Unmoved
