@@ -3,4 +3,5 @@ pub mod Ended
 pub mod Established
 pub mod Grown
 pub mod HeldBack
+pub mod NoData
 pub mod Unmoved
