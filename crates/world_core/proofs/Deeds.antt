@@ -1,6 +1,7 @@
 pub mod AfterPut
 pub mod EachLetter
 pub mod Honest
+pub mod Lasting
 pub mod SameLetter
 pub mod Sent
 pub mod SomeLetter

@@ -1,3 +1,4 @@
 pub mod EachEvent
 pub mod FewSent
 pub mod FromHonest
+pub mod Lawful

@@ -2,3 +2,5 @@ pub mod Balanced
 pub mod Ended
 pub mod Established
 pub mod Grown
+pub mod HeldBack
+pub mod Unmoved
