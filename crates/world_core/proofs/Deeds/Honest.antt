@@ -17,6 +17,8 @@ use Rattle.world_core.specs.Pairs.{of_pair, own_count, pair_put, pair_taken}
 use Rattle.world_core.specs.Rules.{first_broken, IsHonest}
 use Rattle.world_core.specs.Rules.Deed.{Puts}
 use Rattle.list_facts.specs.Prefix.{IsPrefix}
+use Rattle.world_core.proofs.Counts.InOrder.{Ordered, ordered_nil, ordered_put, ordered_took}
+use Rattle.world_core.proofs.Counts.TrueCounts.{Numbered, numbered_nil, numbered_put, numbered_took}
 use Rattle.world_core.proofs.Deeds.AfterPut.{forward_batch, own_batch}
 use Rattle.world_core.proofs.Pairs.Appended.{pair_put-put, pair_taken-put, pair_put-took, pair_taken-took}
 use Rattle.world_core.proofs.Pairs.Numbers.{own_count-put, own_count-took, sent_number-nil}
@@ -37,6 +39,8 @@ pub record Alone (me : Local) : Type 0 where
   pub few : own_count me.here me.log ≤ most_letters
   pub targets : (to : ℕ) → me.layout.ranks ≤ to → batches_put to me.log ≡ []
   pub lawful : (to : ℕ) → AllByRecursion (IsLawfulPut me.layout me.scheme me.here to) (batches_put to me.log)
+  pub numbered : Numbered me
+  pub ordered : Ordered me
 
 abbrev pub after : Local → Entry → Local
 after me entry = record me { log = me.log ++ entry ∷ [] }
@@ -46,7 +50,15 @@ one_batch true batch = append-nil batch
 one_batch false batch = refl
 
 pub alone_nil : (layout : Shape) (scheme : Scheme) (here : ℕ) → Alone (local_rank layout scheme here [])
-alone_nil layout scheme here = record { carry = λ to. tt; forward = λ s d third. prefix_refl []; few = rw (sent_number-nil here) (omega arith); targets = λ to past. refl; lawful = λ to. tt }
+alone_nil layout scheme here = record {
+  carry = λ to. tt;
+  forward = λ s d third. prefix_refl [];
+  few = rw (sent_number-nil here) (omega arith);
+  targets = λ to past. refl;
+  lawful = λ to. tt;
+  numbered = numbered_nil (local_rank layout scheme here []) refl;
+  ordered = ordered_nil (local_rank layout scheme here []) refl;
+}
 
 pub alone_put : (me : Local) (to : ℕ) (letters : List Letter) → Alone me → Unbroken me to letters → Alone (after me (Put to letters))
 alone_put me to letters alone ok = record {
@@ -70,6 +82,8 @@ alone_put me to letters alone ok = record {
       let Q : ℕ → Type 0 = λ r. AllByRecursion (IsLawfulPut me.layout me.scheme me.here r) (letters ∷ []) in
       rw (batches_put-put me.log to rank letters) (all_append _ _ _ (alone.lawful rank)
       (all_if _ (nat_eq to rank) (letters ∷ []) (λ e. subst Q (eqb-true to rank e) (lawful_put me to letters ok, tt))));
+  numbered = numbered_put me to alone.numbered letters ok;
+  ordered = ordered_put me to alone.ordered letters ok;
 }
 
 pub alone_took : (me : Local) (from : ℕ) (letters : List Letter) → Alone me → Alone (after me (Took from letters))
@@ -80,6 +94,8 @@ alone_took me from letters alone = record {
   few = rw (own_count-took me.here me.log from letters) alone.few;
   targets = λ rank past. batches_put-took me.log from rank letters ∙ alone.targets rank past;
   lawful = λ rank. rw (batches_put-took me.log from rank letters) (alone.lawful rank);
+  numbered = numbered_took me from letters alone.numbered;
+  ordered = ordered_took me from letters alone.ordered;
 }
 
 -- the first entries of an honest log

@@ -40,15 +40,25 @@ pair_within_run s d letters = fewer (is_of_pair s d) (λ l. is_data l && nat_eq 
 pub put_unchanged : (s d : ℕ) {xs ys : List Entry} → IsPrefix xs ys → own_count s ys ≡ own_count s xs → pair_put s d xs ≡ pair_put s d ys
 put_unchanged s d {xs} {ys} p same =
     let none : pair_put s d p.rest ≡ [] =
-    nil_from_length _ (omega (arith, same, ap (own_count s) p.joined, own_count-append s xs p.rest,
-        pair_within_sent s d (letters_put p.rest))) in
+    nil_from_length _ (omega (
+      arith,
+      same,
+      ap (own_count s) p.joined,
+      own_count-append s xs p.rest,
+      pair_within_sent s d (letters_put p.rest),
+    )) in
     sym (append-nil (pair_put s d xs)) ∙ ap (λ zs. pair_put s d xs ++ zs) (sym none)
     ∙ sym (pair_put-append s d xs p.rest) ∙ ap (pair_put s d) p.joined
 
 pub taken_unchanged : (s d : ℕ) {xs ys : List Entry} → IsPrefix xs ys → run_count d ys ≡ run_count d xs → pair_taken s d xs ≡ pair_taken s d ys
 taken_unchanged s d {xs} {ys} p same =
     let none : pair_taken s d p.rest ≡ [] =
-    nil_from_length _ (omega (arith, same, ap (run_count d) p.joined, run_count-append d xs p.rest,
-        pair_within_run s d (letters_taken p.rest))) in
+    nil_from_length _ (omega (
+      arith,
+      same,
+      ap (run_count d) p.joined,
+      run_count-append d xs p.rest,
+      pair_within_run s d (letters_taken p.rest),
+    )) in
     sym (append-nil (pair_taken s d xs)) ∙ ap (λ zs. pair_taken s d xs ++ zs) (sym none)
     ∙ sym (pair_taken-append s d xs p.rest) ∙ ap (pair_taken s d) p.joined
