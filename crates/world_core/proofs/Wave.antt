@@ -5,4 +5,5 @@ pub mod Grown
 pub mod HeldBack
 pub mod Kept
 pub mod NoData
+pub mod Told
 pub mod Unmoved
