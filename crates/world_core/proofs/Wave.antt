@@ -3,6 +3,7 @@ pub mod Ended
 pub mod Established
 pub mod Grown
 pub mod HeldBack
+pub mod Kept
 pub mod NoData
 pub mod Told
 pub mod TrueTotals
