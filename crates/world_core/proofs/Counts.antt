@@ -1,1 +1,4 @@
+pub mod AfterPut
 pub mod BeforeCount
+pub mod InOrder
+pub mod TrueCounts

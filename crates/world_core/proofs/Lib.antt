@@ -9,6 +9,7 @@ pub mod Pairs
 pub mod Plain
 pub mod Posts
 pub mod Replays
+pub mod Rounds
 pub mod Sound
 pub mod Wave
 pub mod Worlds

@@ -1,3 +1,5 @@
+pub mod AfterPut
 pub mod EachEvent
 pub mod FewSent
 pub mod FromHonest
+pub mod Lawful

@@ -26,16 +26,16 @@ pub record Unbroken (me : Local) (to : ℕ) (letters : List Letter) : Type 0 whe
   pub next_total : some_letter_after total_early [] letters me to ≡ false
   pub total : some_letter_after total_wrong [] letters me to ≡ false
 
--- a rule of a table, wherever it stands
-data IsIn : Rule → List Rule → Type 0 where
+-- a rule of a table, wherever it is in it
+pub data IsIn : Rule → List Rule → Type 0 where
   first : {r : Rule} {table : List Rule} → IsIn r (r ∷ table)
   later : {r other : Rule} {table : List Rule} → IsIn r table → IsIn r (other ∷ table)
 
 -- `search rows` finds a rule in a table by its name, so that a new row breaks no proof
-ruleset rows = (first, later)
+pub ruleset rows = (first, later)
 
 -- A deed that breaks no rule of a table doesn't break this one.
-not_broken : (me : Local) (deed : Deed) (r : Rule) (table : List Rule) → IsIn r table → first_broken_of table me deed ≡ None → r.breaks me deed ≡ false
+pub not_broken : (me : Local) (deed : Deed) (r : Rule) (table : List Rule) → IsIn r table → first_broken_of table me deed ≡ None → r.breaks me deed ≡ false
 not_broken me deed r [] at h = elim at [ ]
 not_broken me deed _ (r ∷ table) first h = (cond_none (r.breaks me deed) r.why (first_broken_of table me deed) h).0
 not_broken me deed r (other ∷ table) (later at) h = not_broken me deed r table at (cond_none (other.breaks me deed) other.why (first_broken_of table me deed) h).1

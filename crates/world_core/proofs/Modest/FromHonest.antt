@@ -7,17 +7,18 @@ use Rattle.msg_codec.specs.declared.letter.Letter.{Letter}
 use Rattle.ygm_route.specs.Layout.{max_ranks}
 use Rattle.world_core.specs.Limits.{most_arrived, most_letters}
 use Rattle.world_core.specs.Log.{letters_put, letters_taken}
-use Rattle.world_core.specs.Modest.{IsLawful, IsWorld}
-use Rattle.world_core.specs.Pairs.{is_data, is_of_pair, of_pair, arrived, pair_put}
+use Rattle.world_core.specs.Modest.{AreInTurn, IsWorld}
+use Rattle.world_core.specs.Pairs.{for_rank, is_data, is_of_pair, of_pair, pair_put, run_count}
 use Rattle.world_core.specs.Sound.{IsOnPath}
+use Rattle.world_core.specs.Wave.{AreRounds}
 use Rattle.world_core.specs.World.{Logs, log_of, local}
 use Rattle.world_core.proofs.Sound.FromHonest.{got_prefix, is_sound}
 use Rattle.world_core.proofs.Sound.OnPath.{Base, alone, carried_taken}
-use Rattle.world_core.proofs.Log.ByLink.{all_taken}
+use Rattle.world_core.proofs.Modest.Lawful.{IsLawfulLetter, all_lawful, lawful_letters}
 use Rattle.list_facts.proofs.Prefix.{prefix_length}
 use Rattle.list_facts.proofs.Elements.{all_weaker}
 use Rattle.list_facts.proofs.Tests.{and_first, and_second}
-use Rattle.world_core.proofs.Pairs.OfPair.{pair_of_sender}
+use Rattle.world_core.proofs.Pairs.Numbers.{pair_within_sent, run_number-is}
 
 -- the letters for a rank from the senders below a number
 abbrev from_below : ℕ → ℕ → Letter → Bool
@@ -48,30 +49,28 @@ senders_below here most xs few (suc n) =
 module _ (world : Logs) (base : Base world) where
   -- a rank puts no more letters to one rank than it puts at all
   pair-own : (s d : ℕ) → length (pair_put s d (log_of world s)) ≤ most_letters
-  pair-own s d = le_trans (pair_of_sender s d (letters_put (log_of world s))) (alone world base s).few
+  pair-own s d = le_trans (pair_within_sent s d (letters_put (log_of world s))) (alone world base s).few
 
   few_of_pair : (here s : ℕ) → length (of_pair s here (letters_taken (log_of world here))) ≤ most_letters
   few_of_pair here s = le_trans (prefix_length (got_prefix world base s here)) (pair-own s here)
 
-  lawful : (here : ℕ) → AllByRecursion (IsLawful (local world here)) (letters_taken (log_of world here))
-  lawful here = all_taken (IsLawful (local world here)) (log_of world here)
-      (λ a. all_weaker _ (IsLawful (local world here)) _ (λ l c. record { destination = lt-ltb _ _ c.lawful.to_within; sender = lt-ltb _ _ c.lawful.from_within; tag = c.lawful.tag }) (carried_taken world base a here))
-
-  few_arrived : (here : ℕ) → length (arrived here (log_of world here)) ≤ most_arrived
+  pub few_arrived : (here : ℕ) → run_count here (log_of world here) ≤ most_arrived
   few_arrived here =
-      let all : AllByRecursion (λ l. (is_data l && nat_eq l.to here) ≡ true → from_below here world.layout.ranks l ≡ true) (letters_taken (log_of world here)) =
-      all_weaker (IsLawful (local world here)) _ (letters_taken (log_of world here)) (λ l c h. rw (h, c.sender) refl) (lawful here) in
-      let a : length (arrived here (log_of world here)) ≤ length (filter (from_below here world.layout.ranks) (letters_taken (log_of world here))) = fewer _ _ _ all in
-      let b : length (filter (from_below here world.layout.ranks) (letters_taken (log_of world here))) ≤ world.layout.ranks * most_letters = senders_below here most_letters (letters_taken (log_of world here)) (few_of_pair here) world.layout.ranks in
+      let taken : List Letter = letters_taken (log_of world here) in
+      let all : AllByRecursion (λ l. (is_data l && nat_eq l.to here) ≡ true → from_below here world.layout.ranks l ≡ true) taken =
+      all_weaker (IsLawfulLetter (local world here)) _ taken (λ l c h. rw (h, c.sender) refl) (lawful_letters (local world here) (all_lawful world base here)) in
+      let a : length (for_rank here taken) ≤ length (filter (from_below here world.layout.ranks) taken) = fewer _ _ _ all in
+      let b : length (filter (from_below here world.layout.ranks) taken) ≤ world.layout.ranks * most_letters = senders_below here most_letters taken (few_of_pair here) world.layout.ranks in
       let c : world.layout.ranks ≤ max_ranks = base.laid_out.few_ranks in
-      omega arith
+      omega (arith, run_number-is here taken)
 
-  pub is_world : IsWorld world
-  is_world = record {
-    sound = is_sound world base;
-    modest = λ here _. record {
+  pub is_world : AreRounds world → ((rank : ℕ) → rank < world.layout.ranks → AreInTurn (local world rank)) → IsWorld world
+  is_world rounds control = record {
+    sound = is_sound world base rounds;
+    modest = λ here within. record {
       few = few_arrived here;
-      lawful = lawful here;
-      on_path = λ a. all_weaker _ (IsOnPath world.layout world.scheme a here) _ (λ l c _. c.crossed) (carried_taken world base a here);
+      lawful = all_lawful world base here;
+      on_path = λ a. all_weaker _ (IsOnPath world.layout world.scheme a here) _ (λ l c tag. c.crossed tag) (carried_taken world base a here);
+      control = control here within;
     };
   }

@@ -9,8 +9,9 @@ use Rattle.list_facts.specs.Prefix.{IsPrefix}
 use Rattle.world_core.specs.declared.entry.Entry.{Entry}
 use Rattle.world_core.specs.declared.entry.Entry.TheVariants.{Put, Took}
 use Rattle.world_core.specs.Log.{letters_put, letters_put_by, letters_taken, letters_taken_by}
-use Rattle.world_core.specs.Pairs.{for_rank, is_data, of_sender, own_count, run_count, run_number, sent_number}
+use Rattle.world_core.specs.Pairs.{for_rank, is_data, of_pair, of_sender, own_count, run_count, run_number, sent_number}
 use Rattle.world_core.proofs.Log.Appended.{letters_put-put, letters_put-took, letters_taken-put, letters_taken-took}
+use Rattle.world_core.proofs.Pairs.OfPair.{pair_of_sender}
 
 abbrev is_from : ℕ → Letter → Bool
 is_from rank l = is_data l && nat_eq l.from rank
@@ -70,6 +71,10 @@ sent_of_prefix rank {xs} {ys} p = omega (arith, ap (sent_number rank) p.joined, 
 
 pub run_of_letters_prefix : (rank : ℕ) {xs ys : List Letter} → IsPrefix xs ys → run_number rank xs ≤ run_number rank ys
 run_of_letters_prefix rank {xs} {ys} p = omega (arith, ap (run_number rank) p.joined, run_number-append rank xs p.rest)
+
+-- a rank sends no fewer letters than those to one rank
+pub pair_within_sent : (from to : ℕ) (letters : List Letter) → length (of_pair from to letters) ≤ sent_number from letters
+pair_within_sent from to letters = rw (sent_number-is from letters) (pair_of_sender from to letters)
 
 -- ---- of logs
 

@@ -15,11 +15,12 @@ use Rattle.world_core.specs.Log.{batches_put, batches_taken, letters_of}
 use Rattle.world_core.specs.Pairs.{is_of_pair, of_pair, pair_put, pair_taken}
 use Rattle.list_facts.specs.Prefix.{IsPrefix}
 use Rattle.world_core.specs.Sound.{IsOnPath, IsSound}
+use Rattle.world_core.specs.Wave.{AreRounds}
 use Rattle.world_core.specs.World.{Logs, log_of}
 use Rattle.world_core.proofs.Deeds.Sent.{IsCarried}
 use Rattle.world_core.proofs.Local.Between.{IsThird, between}
 use Rattle.world_core.proofs.Sound.OnPath.{Base, alone, carried_put, carried_taken}
-use Rattle.world_core.proofs.Pairs.OfPair.{pair_of}
+use Rattle.world_core.proofs.Pairs.OfPair.{pair_of, pair_data}
 use Rattle.world_core.proofs.Log.ByLink.{only_put, only_taken}
 use Rattle.list_facts.proofs.Prefix.{prefix_trans, prefix_filter, prefix_joined}
 use Rattle.list_facts.proofs.Elements.{all_weaker}
@@ -31,7 +32,7 @@ module _ (world : Logs) (base : Base world) where
   crossing_pair s d a b l c h =
       let P : ℕ → ℕ → Type 0 = λ x y. IsTrue (crosses (path world.layout world.scheme x y) a b) in
       let e = pair_of s d l h in
-      subst (λ y. P s y) e.1 (subst (λ x. P x l.to) e.0 c.crossed)
+      subst (λ y. P s y) e.1 (subst (λ x. P x l.to) e.0 (c.crossed (pair_data s d l h)))
 
   -- what the end of a link of the path took of the pair is a prefix of what its start put of it
   pub link_carries : (s d a b : ℕ) → AreRanks world.layout s d → IsTrue (crosses (path world.layout world.scheme s d) a b) →
@@ -105,14 +106,15 @@ module _ (world : Logs) (base : Base world) where
     | inr past ↦ rw (no_pair s d d (λ r. absurd (omega (arith, r.from_within)))) (record { rest = pair_put s d (log_of world s); joined = refl })
   ]
 
-  pub is_sound : IsSound world
-  is_sound = record {
+  pub is_sound : AreRounds world → IsSound world
+  is_sound rounds = record {
     laid_out = base.laid_out;
     all_ranks = base.all_ranks;
     agree = base.agree;
     honest = base.honest;
     got = got_prefix;
     forwarded = λ s d r h. (alone world base r).forward s d (between layout scheme s d r h);
-    put_on_path = λ a b. all_weaker _ (IsOnPath layout scheme a b) _ (λ l c _. c.crossed) (carried_put world base a b);
-    taken_on_path = λ a b. all_weaker _ (IsOnPath layout scheme a b) _ (λ l c _. c.crossed) (carried_taken world base a b);
+    put_on_path = λ a b. all_weaker _ (IsOnPath layout scheme a b) _ (λ l c tag. c.crossed tag) (carried_put world base a b);
+    taken_on_path = λ a b. all_weaker _ (IsOnPath layout scheme a b) _ (λ l c tag. c.crossed tag) (carried_taken world base a b);
+    rounds = rounds;
   }
