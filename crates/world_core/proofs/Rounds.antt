@@ -1,1 +1,2 @@
 pub mod BarrierStart
+pub mod Stepwise

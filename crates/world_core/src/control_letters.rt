@@ -1,5 +1,5 @@
 //! What a log put and took of control letters, and before them.
-ghost use Rattle.std.specs.Prelude.{◌≡◌, ◌≤◌, ◌&&◌, ◌==◌, length, filter, option_map, if◌then◌else◌, Some, None};
+ghost use Rattle.std.specs.Prelude.{◌≡◌, ◌≤◌, ◌&&◌, ◌==◌, [], ◌∷◌, length, filter, option_map, if◌then◌else◌, Some, None};
 ghost use Rattle.std.specs.List.{find, list_any};
 ghost use Rattle.msg_codec.specs.Control.{is_control, is_count, is_total, round_of};
 ghost use Rattle.msg_codec.specs.Letter.{letter_of};
@@ -10,7 +10,7 @@ ghost use Rattle.world_core.specs.Trial.{sums_read};
 use crate::Entry;
 use crate::kinds::{is_control, is_count, is_total};
 use crate::known_rounds::Sums;
-use crate::search::{run_number, sent_number};
+use crate::search::{run_by, sent_by};
 use msg_codec::{Control, LetterRef, Letters, control_of};
 
 /// Whether a batch has a control letter.
@@ -76,9 +76,7 @@ pub fn own_before(log: &[Entry], rank: u32, q: u64) -> u128
             }
             left -= 1;
         }
-        if let Entry::Put { letters, .. } = entry {
-            count += u128::from(sent_number(letters, rank));
-        }
+        count += u128::from(sent_by(entry, rank));
     }
     count
 }
@@ -97,9 +95,7 @@ pub fn run_before(log: &[Entry], rank: u32, q: u64) -> u128
             }
             left -= 1;
         }
-        if let Entry::Took { letters, .. } = entry {
-            count += u128::from(run_number(letters, rank));
-        }
+        count += u128::from(run_by(entry, rank));
     }
     count
 }
@@ -110,11 +106,19 @@ pub fn totals(log: &[Entry], to: u32) -> u128
 {
     let mut count: u128 = 0;
     for entry in log {
-        if let Entry::Put { to: rank, letters } = entry && *rank == to {
-            count += u128::from(total_number(letters));
-        }
+        count += u128::from(totals_by(entry, to));
     }
     count
+}
+
+/// The number of Totals that an entry put to a rank.
+fn totals_by(entry: &Entry, to: u32) -> u64
+    ensures { result ≡ totals to (entry.now ∷ []) }
+{
+    match entry {
+        Entry::Put { to: rank, letters } if *rank == to => total_number(letters),
+        _ => 0,
+    }
 }
 
 /// The number of Totals in a batch.
@@ -135,14 +139,22 @@ pub fn count_taken(log: &[Entry], rank: u32, q: u64) -> Option<Sums>
     ensures { result ≡ option_map sums_read (count_taken rank q log.now) }
 {
     for entry in log {
-        if let Entry::Took { from, letters } = entry && *from == rank {
-            let found = count_in(letters, rank, q);
-            if found.is_some() {
-                return found;
-            }
+        let found = count_by(entry, rank, q);
+        if found.is_some() {
+            return found;
         }
     }
     None
+}
+
+/// The sums in the Count of a round that an entry took from a rank.
+fn count_by(entry: &Entry, rank: u32, q: u64) -> Option<Sums>
+    ensures { result ≡ option_map sums_read (count_taken rank q (entry.now ∷ [])) }
+{
+    match entry {
+        Entry::Took { from, letters } if *from == rank => count_in(letters, rank, q),
+        _ => None,
+    }
 }
 
 /// The sums in the first Count of a round of a rank in a batch.
@@ -176,14 +188,22 @@ pub fn total_taken(log: &[Entry], here: u32, q: u128) -> Option<Sums>
     ensures { result ≡ option_map sums_read (total_taken here q log.now) }
 {
     for entry in log {
-        if let Entry::Took { from, letters } = entry && *from == 0 {
-            let found = total_in(letters, here, q);
-            if found.is_some() {
-                return found;
-            }
+        let found = total_by(entry, here, q);
+        if found.is_some() {
+            return found;
         }
     }
     None
+}
+
+/// The sums in the Total of a round that an entry of a rank took.
+fn total_by(entry: &Entry, here: u32, q: u128) -> Option<Sums>
+    ensures { result ≡ option_map sums_read (total_taken here q (entry.now ∷ [])) }
+{
+    match entry {
+        Entry::Took { from, letters } if *from == 0 => total_in(letters, here, q),
+        _ => None,
+    }
 }
 
 /// The sums in the first Total of a round to a rank in a batch.

@@ -1,5 +1,5 @@
 //! What a log knows of rounds.
-ghost use Rattle.std.specs.Prelude.{◌≡◌, length};
+ghost use Rattle.std.specs.Prelude.{◌≡◌, ◌&&◌, nat_lt, length};
 ghost use Rattle.world_core.specs.Log.{letters_taken};
 ghost use Rattle.world_core.specs.Rounds.{agree, barrier_start};
 ghost use Rattle.world_core.specs.Trial.{sums_of};
@@ -15,10 +15,17 @@ pub struct Sums {
 }
 
 /// Whether two rounds have the same sums, and all that was sent in each ran.
-pub fn agree(a: Sums, b: Sums) -> bool
+fn agree(a: Sums, b: Sums) -> bool
     ensures { result ≡ agree (sums_of a) (sums_of b) }
 {
     a.sent == a.run && b.sent == b.run && a.sent == b.sent
+}
+
+/// Whether round `q` ends the barrier that began with round `first`, by the sums of the round before and its own.
+pub fn ends_from(first: u128, q: u128, before: Sums, sums: Sums) -> bool
+    ensures { result ≡ (nat_lt first q && agree (sums_of before) (sums_of sums)) }
+{
+    first < q && agree(before, sums)
 }
 
 /// The first round of the barrier that a rank is in, or that comes next, as it learns from the Totals that its log took.
@@ -31,7 +38,7 @@ pub fn barrier_start(log: &[Entry], here: u32) -> u128
         match total_taken(log, here, q) {
             None => return first,
             Some(sums) => {
-                if first < q && agree(before, sums) {
+                if ends_from(first, q, before, sums) {
                     first = q + 1;
                 }
                 before = sums;

@@ -1,29 +1,19 @@
 -- How many letters a log sent and ran, entry by entry, and how many a batch did, letter by letter.
-use Rattle.std.proofs.Common.{◌≡◌, ℕ, ◌+◌, ◌&&◌, Bool, cond, nat_eq, Some, List, [], ◌∷◌, ◌++◌, take, slice_get, ap, ◌∙◌, append-nil}
-use Rattle.std.proofs.lemmas.Grind.{flat_map-append}
+use Rattle.std.proofs.Common.{◌≡◌, ℕ, ◌+◌, ◌&&◌, Bool, cond, nat_eq, Some, List, [], ◌∷◌, take, slice_get, ap, ◌∙◌}
 use Rattle.msg_codec.specs.declared.letter.Letter.{Letter}
 use Rattle.list_facts.proofs.Steps.{taken_more}
 use Rattle.world_core.specs.declared.entry.Entry.{Entry}
-use Rattle.world_core.specs.Log.{letters_put, letters_put_by, letters_taken, letters_taken_by}
 use Rattle.world_core.specs.Pairs.{is_data, own_count, run_count, run_number, sent_number}
-use Rattle.world_core.proofs.Pairs.Numbers.{sent_number-append, sent_number-one, run_number-append, run_number-one}
+use Rattle.world_core.proofs.Pairs.Numbers.{own_count-append, run_count-append, sent_number-append, sent_number-one, run_number-append, run_number-one}
 
 -- ---- a log
 
 module _ (rank : ℕ) (log : List Entry) (i : ℕ) (e : Entry) (here : slice_get log i ≡ Some e) where
-  pub own_next : own_count rank (take (i + 1) log) ≡ own_count rank (take i log) + sent_number rank (letters_put_by e)
-  own_next =
-      ap (own_count rank) (taken_more log i e here)
-      ∙ ap (sent_number rank) (flat_map-append letters_put_by (take i log) (e ∷ []))
-      ∙ sent_number-append rank (letters_put (take i log)) (letters_put_by e ++ [])
-      ∙ ap (λ xs. own_count rank (take i log) + sent_number rank xs) (append-nil (letters_put_by e))
+  pub own_next : own_count rank (take (i + 1) log) ≡ own_count rank (take i log) + own_count rank (e ∷ [])
+  own_next = ap (own_count rank) (taken_more log i e here) ∙ own_count-append rank (take i log) (e ∷ [])
 
-  pub run_next : run_count rank (take (i + 1) log) ≡ run_count rank (take i log) + run_number rank (letters_taken_by e)
-  run_next =
-      ap (run_count rank) (taken_more log i e here)
-      ∙ ap (run_number rank) (flat_map-append letters_taken_by (take i log) (e ∷ []))
-      ∙ run_number-append rank (letters_taken (take i log)) (letters_taken_by e ++ [])
-      ∙ ap (λ xs. run_count rank (take i log) + run_number rank xs) (append-nil (letters_taken_by e))
+  pub run_next : run_count rank (take (i + 1) log) ≡ run_count rank (take i log) + run_count rank (e ∷ [])
+  run_next = ap (run_count rank) (taken_more log i e here) ∙ run_count-append rank (take i log) (e ∷ [])
 
 -- ---- a batch
 

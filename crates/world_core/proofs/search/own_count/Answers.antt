@@ -3,7 +3,6 @@ use Rattle.std.proofs.lemmas.Option.{slice_get_read}
 use Rattle.world_core.proofs.Pairs.Numbers.{sent_number-nil}
 use Rattle.world_core.proofs.Pairs.Stepwise.{own_next}
 use Rattle.world_core.proofs.search.own_count.Goals as goal
-use Rattle.world_core.proofs.search.own_count.Goals.{in-Put, in_default}
 
 pub loop-entry-init : goal.loop-entry-init
 loop-entry-init c = record { value = sym (sent_number-nil c.args.rank); few = omega arith }
@@ -12,7 +11,4 @@ pub loop-entry-preserved : goal.loop-entry-preserved
 loop-entry-preserved c =
     let read = slice_get_read c.args.log.now _ c.loop-entry.entry-index c.entry-item.result refl (omega arith) c.entry-item.is in
     let next = own_next c.args.rank c.args.log.now c.loop-entry.entry-index c.entry-item.result read in
-    elim c.match-entry.branch [
-      | in-Put w ↦ let more = rw w.in-Put.is at next in record { value = omega arith; few = omega arith }
-      | in_default w ↦ let same = rw w.in_default.is at next in record { value = omega (arith, sent_number-nil c.args.rank); few = omega arith }
-    ]
+    record { value = omega arith; few = omega arith }
