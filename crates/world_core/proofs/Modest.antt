@@ -1,3 +1,4 @@
+pub mod AfterPut
 pub mod EachEvent
 pub mod FewSent
 pub mod FromHonest

@@ -3,4 +3,8 @@ pub mod Ended
 pub mod Established
 pub mod Grown
 pub mod HeldBack
+pub mod Kept
+pub mod NoData
+pub mod Told
+pub mod TrueTotals
 pub mod Unmoved

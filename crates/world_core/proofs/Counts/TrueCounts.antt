@@ -1,5 +1,5 @@
 -- Each Count that an honest log put carries the numbers of the log before it, and a log that put Count q + 1 took Total q.
-use Rattle.std.proofs.Common.{◌≡◌, ℕ, suc, pred, ◌+◌, ◌<◌, ◌&&◌, Bool, true, false, nat_eq, nat_lt, eqb-true, lt-ltb, is_some, Option, Some, None, List, [], ◌∷◌, ◌++◌, refl, sym, ap, ◌∙◌, subst, inl, inr, arith}
+use Rattle.std.proofs.Common.{◌≡◌, ℕ, suc, pred, ◌<◌, ◌&&◌, Bool, true, false, nat_eq, nat_lt, eqb-true, lt-ltb, is_some, Option, Some, None, List, [], ◌∷◌, ◌++◌, refl, sym, ap, ◌∙◌, subst, inl, inr, arith}
 use Rattle.std.specs.Bool.{IsTrue}
 use Rattle.std.specs.List.{AllByRecursion}
 use Rattle.std.specs.Option.{option_or}

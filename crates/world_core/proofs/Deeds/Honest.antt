@@ -1,6 +1,5 @@
 -- What an honest log has, whatever the other ranks do.
-use Rattle.std.proofs.Common.{◌≡◌, ℕ, zero, suc, ◌≤◌, ◌<◌, Bool, true, false, nat_eq, eqb-true, ne_eqb, Some, None, List, [], ◌∷◌, ◌++◌, length, take, slice_get, get_or, refl, sym, ap, ◌∙◌, subst, append-nil, inl, inr, if◌then◌else◌, arith, add-one, length-append, le_of_lt}
-use Rattle.list_facts.proofs.Places.{item_at_end, item_left}
+use Rattle.std.proofs.Common.{◌≡◌, ℕ, zero, suc, ◌≤◌, ◌<◌, Bool, true, false, nat_eq, eqb-true, ne_eqb, Some, None, List, [], ◌∷◌, ◌++◌, length, take, slice_get, get_or, refl, sym, ap, ◌∙◌, subst, append-nil, if◌then◌else◌, arith, add-one}
 use Rattle.list_facts.proofs.Elements.{all_if, all_append}
 use Rattle.list_facts.proofs.Prefix.{prefix_refl, prefix_longer}
 use Rattle.std.specs.List.{AllByRecursion}
@@ -26,12 +25,12 @@ use Rattle.world_core.proofs.Deeds.Lasting.{IsLawfulPut, lawful_put}
 use Rattle.world_core.proofs.Deeds.Unbroken.{Unbroken, unbroken, sender_within, receiver_within}
 use Rattle.world_core.proofs.Deeds.Sent.{IsSent, sent}
 use Rattle.world_core.proofs.Local.Between.{IsThird}
+use Rattle.world_core.proofs.Log.AtEntry.{entry_more}
 use Rattle.world_core.proofs.Log.Appended.{batches_put-put, batches_put-took}
 use Rattle.list_facts.proofs.Tests.{or_false_second}
-use Rattle.std.proofs.lemmas.Bool.{cases_lt}
-use Rattle.std.proofs.Math.Seq.{take-append_seam, take-length}
-use Rattle.std.proofs.lemmas.List.{take_more, take-append-le}
-use Rattle.std.proofs.lemmas.Option.{same_Some, slice_get-get_or, slice_get_within}
+use Rattle.std.proofs.Math.Seq.{take-length}
+use Rattle.std.proofs.lemmas.List.{take_more}
+use Rattle.std.proofs.lemmas.Option.{slice_get-get_or}
 
 pub record Alone (me : Local) : Type 0 where
   pub carry : (to : ℕ) → AllByRecursion (IsSent me.layout me.scheme me.here to) (letters_of (batches_put to me.log))
@@ -123,15 +122,6 @@ alone_honest me honest =
 pub honest_more : (me : Local) (entry : Entry) → IsHonest me →
     ((to : ℕ) (letters : List Letter) → entry ≡ Put to letters → first_broken me (Puts to letters) ≡ None) → IsHonest (after me entry)
 honest_more me entry honest ok k to letters h =
-    let P : List Entry → Type 0 = λ log. first_broken (record me { log = log }) (Puts to letters) ≡ None in
-    elim (cases_lt k (length me.log)) [
-      | inl within ↦ subst P (sym (take-append-le k me.log (entry ∷ []) (le_of_lt within)))
-          (honest k to letters (sym (item_left me.log (entry ∷ []) k within) ∙ h))
-      | inr past ↦
-          let inside : k < length (me.log ++ entry ∷ []) = slice_get_within _ k _ h in
-          let at_end : length me.log ≡ k = omega (arith, length-append me.log (entry ∷ [])) in
-          let Q : ℕ → Type 0 = λ n. slice_get (me.log ++ entry ∷ []) n ≡ Some (Put to letters) in
-          let is_entry : entry ≡ Put to letters = same_Some _ _ (sym (item_at_end me.log entry []) ∙ subst Q (sym at_end) h) in
-          let R : ℕ → Type 0 = λ n. P (take n (me.log ++ entry ∷ [])) in
-          subst R at_end (subst P (sym (take-append_seam me.log (entry ∷ []))) (ok to letters is_entry))
-    ]
+    let P : List Entry → Entry → Type 0 = λ log e. (rank : ℕ) (batch : List Letter) → e ≡ Put rank batch → first_broken (record me { log = log }) (Puts rank batch) ≡ None in
+    entry_more P me.log entry
+    (λ j e there rank batch same. honest j rank batch (there ∙ ap Some same)) ok k (Put to letters) h to letters refl

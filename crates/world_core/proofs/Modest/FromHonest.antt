@@ -12,7 +12,8 @@ use Rattle.world_core.specs.Pairs.{for_rank, is_data, is_of_pair, of_pair, pair_
 use Rattle.world_core.specs.Sound.{IsOnPath}
 use Rattle.world_core.specs.Wave.{AreRounds}
 use Rattle.world_core.specs.World.{Logs, log_of, local}
-use Rattle.world_core.proofs.Sound.FromHonest.{got_prefix, is_sound}
+use Rattle.world_core.proofs.Sound.AlongPath.{got_prefix}
+use Rattle.world_core.proofs.Sound.FromHonest.{is_sound}
 use Rattle.world_core.proofs.Sound.OnPath.{Base, alone, carried_taken}
 use Rattle.world_core.proofs.Modest.Lawful.{IsLawfulLetter, all_lawful, lawful_letters}
 use Rattle.list_facts.proofs.Prefix.{prefix_length}

@@ -9,9 +9,8 @@ use Rattle.list_facts.proofs.Filters.{fewer}
 use Rattle.msg_codec.specs.declared.letter.Letter.{Letter}
 use Rattle.world_core.specs.declared.entry.Entry.{Entry}
 use Rattle.world_core.specs.Log.{letters_put, letters_put_by, letters_taken, letters_taken_by}
-use Rattle.world_core.specs.Pairs.{is_data, is_of_pair, of_pair, own_count, pair_put, pair_taken, run_count, run_number, sent_number}
-use Rattle.world_core.proofs.Pairs.Numbers.{own_count-append, run_count-append}
-use Rattle.world_core.proofs.Pairs.OfPair.{pair_of_sender}
+use Rattle.world_core.specs.Pairs.{is_data, is_of_pair, of_pair, own_count, pair_put, pair_taken, run_count, run_number}
+use Rattle.world_core.proofs.Pairs.Numbers.{own_count-append, pair_within_sent, run_count-append}
 
 pub pair_put-append : (s d : ℕ) (xs ys : List Entry) → pair_put s d (xs ++ ys) ≡ pair_put s d xs ++ pair_put s d ys
 pair_put-append s d xs ys = ap (of_pair s d) (flat_map-append letters_put_by xs ys) ∙ filter-append _ (letters_put xs) (letters_put ys)
@@ -19,16 +18,12 @@ pair_put-append s d xs ys = ap (of_pair s d) (flat_map-append letters_put_by xs 
 pub pair_taken-append : (s d : ℕ) (xs ys : List Entry) → pair_taken s d (xs ++ ys) ≡ pair_taken s d xs ++ pair_taken s d ys
 pair_taken-append s d xs ys = ap (of_pair s d) (flat_map-append letters_taken_by xs ys) ∙ filter-append _ (letters_taken xs) (letters_taken ys)
 
--- ---- a pair has no more letters than its sender sent, and than run at its destination
+-- ---- no more letters of a pair are in a list than run at its destination
 
 without_sender : (a b c : Bool) → ((a && b) && c) ≡ true → (a && c) ≡ true
 without_sender true true c h = h
 without_sender true false c h = absurd cc
 without_sender false b c h = absurd cc
-
-pub pair_within_sent : (s d : ℕ) (letters : List Letter) → length (of_pair s d letters) ≤ sent_number s letters
-unfolding sent_number
-pair_within_sent s d letters = pair_of_sender s d letters
 
 pub pair_within_run : (s d : ℕ) (letters : List Letter) → length (of_pair s d letters) ≤ run_number d letters
 unfolding run_number

@@ -20,7 +20,7 @@ use Rattle.world_core.specs.Log.{batches_put, batches_taken, letters_of, letters
 use Rattle.world_core.specs.Local.{local_rank}
 use Rattle.world_core.specs.Pairs.{is_of_pair}
 use Rattle.world_core.specs.Rules.{IsHonest}
-use Rattle.world_core.specs.Sound.{LinksAgree}
+use Rattle.world_core.specs.Sound.{IsSound, LinksAgree}
 use Rattle.world_core.specs.World.{Logs, log_of, local}
 use Rattle.world_core.proofs.Deeds.Honest.{Alone, alone_nil, alone_honest}
 use Rattle.world_core.proofs.Deeds.Sent.{IsCarried, IsSent}
@@ -37,6 +37,9 @@ pub record Base (world : Logs) : Type 0 where
   pub all_ranks : length world.logs ≡ world.layout.ranks
   pub agree : LinksAgree world
   pub honest : (rank : ℕ) → rank < world.layout.ranks → IsHonest (local world rank)
+
+pub sound_base : (world : Logs) → IsSound world → Base world
+sound_base world sound = record { laid_out = sound.laid_out; all_ranks = sound.all_ranks; agree = sound.agree; honest = sound.honest }
 
 -- none of these letters is of the pair
 abbrev None_of : ℕ → ℕ → List Letter → Type 0
