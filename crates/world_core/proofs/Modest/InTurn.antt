@@ -46,7 +46,9 @@ pub turn_more : (me : Local) (entry : Entry) → TookInTurn me →
 turn_more me entry turns next k from letters h =
     let P : List Entry → Entry → Type 0 = λ log e. (rank : ℕ) (taken : List Letter) → e ≡ Took rank taken →
     list_any (too_soon (record me { log = log }) rank) taken ≡ false in
-    entry_more P me.log entry (λ j e there rank taken is. turns j rank taken (there ∙ ap Some is)) next k (Took from letters) h from letters refl
+    let before : (j : ℕ) (e : Entry) → slice_get me.log j ≡ Some e → P (take j me.log) e =
+    λ j e there rank taken is. turns j rank taken (there ∙ ap Some is) in
+    entry_more P me.log entry before next k (Took from letters) h from letters refl
 
 -- ---- letters of batches
 
@@ -57,7 +59,8 @@ of_batch P [] k letters all h = absurd cc
 of_batch P (batch ∷ batches) zero letters all h =
     let same : batch ≡ letters = same_Some batch letters h in
     subst (AllByRecursion P) same (all_first P batch (letters_of batches) all)
-of_batch P (batch ∷ batches) (suc k) letters all h = of_batch P batches k letters (all_second P batch (letters_of batches) all) h
+of_batch P (batch ∷ batches) (suc k) letters all h =
+    of_batch P batches k letters (all_second P batch (letters_of batches) all) h
 
 and_if : (a b : Bool) → (a ≡ true → b ≡ false) → (a && b) ≡ false
 and_if true b f = f refl
@@ -80,7 +83,8 @@ module _ (world : Logs) (base : Base world) (core : Core world) where
 
   few_own : all_own world ≤ most_arrived
   few_own =
-      let most = sum_upto-le (λ rank. own_count rank (log_of world rank)) most_letters world.layout.ranks (λ rank _. (alone world base rank).few) in
+      let own : ℕ → ℕ = λ rank. own_count rank (log_of world rank) in
+      let most = sum_upto-le own most_letters world.layout.ranks (λ rank _. (alone world base rank).few) in
       omega (arith, most, base.laid_out.few_ranks)
 
   few_run : all_run world ≤ most_arrived
@@ -88,7 +92,8 @@ module _ (world : Logs) (base : Base world) (core : Core world) where
 
   -- ---- in the order of their rounds
 
-  in_order : (p : Letter → Bool) (from to : ℕ) → AreNumbered 0 (filter p (letters_of (batches_put to (log_of world from)))) →
+  in_order : (p : Letter → Bool) (from to : ℕ) →
+      AreNumbered 0 (filter p (letters_of (batches_put to (log_of world from)))) →
       AreNumbered 0 (filter p (letters_of (batches_taken from (log_of world to))))
   in_order p from to numbered =
       let taken = prefix_filter p (prefix_joined (base.agree from to)) in
@@ -97,36 +102,48 @@ module _ (world : Logs) (base : Base world) (core : Core world) where
   -- ---- not too soon
 
   -- a Total that a rank took was put to it
-  was_put : (rank q : ℕ) (o : Option Letter) → total_taken rank q (log_of world rank) ≡ o → is_some o ≡ true → q < totals rank (log_of world 0)
+  was_put : (rank q : ℕ) (o : Option Letter) → total_taken rank q (log_of world rank) ≡ o → is_some o ≡ true →
+      q < totals rank (log_of world 0)
   unfolding total_taken
   was_put rank q None taken some = absurd (false≢true some)
   was_put rank q (Some l) taken some =
       let most = totals rank (log_of world 0) in
-      let below = numbered_below 0 most is_total (letters_of (batches_put rank (log_of world 0))) ((alone world base 0).ordered.totals_up rank) (omega arith) in
-      let there = find_found (λ x. is_total x ≡ true → round_of x < most) (λ x. is_total_to rank x && nat_eq (round_of x) q) _ l
-      (all_prefix _ (prefix_joined (base.agree 0 rank)) below) taken in
-      let round : round_of l ≡ q = eqb-true (round_of l) q (and_second (is_total_to rank l) (nat_eq (round_of l) q) there.1) in
+      let P : Letter → Type 0 = λ x. is_total x ≡ true → round_of x < most in
+      let numbered = (alone world base 0).ordered.totals_up rank in
+      let put : AllByRecursion P (letters_of (batches_put rank (log_of world 0))) =
+      numbered_below 0 most is_total _ numbered (omega arith) in
+      let test : Letter → Bool = λ x. is_total_to rank x && nat_eq (round_of x) q in
+      let there = find_found P test _ l (all_prefix P (prefix_joined (base.agree 0 rank)) put) taken in
+      let round : round_of l ≡ q = eqb-true _ q (and_second (is_total_to rank l) (nat_eq (round_of l) q) there.1) in
       let number : round_of l < most = there.0 (and_first _ _ (and_first _ _ (and_first _ _ there.1))) in
       omega (arith, round, number)
 
   -- a rank that put a Count was sent the Totals of the rounds before
   sent_before : (rank q : ℕ) → q < counts (log_of world rank) → q ≤ totals rank (log_of world 0)
   sent_before rank zero put = omega arith
-  sent_before rank (suc q) put = omega (arith, was_put rank q (total_taken rank q (log_of world rank)) refl ((core.numbered rank).told q put))
+  sent_before rank (suc q) put =
+      omega (arith, was_put rank q (total_taken rank q (log_of world rank)) refl ((core.numbered rank).told q put))
 
   -- Counts go to rank 0 alone
-  counts_to_first : (from to : ℕ) → AllByRecursion (λ l. is_count l ≡ true → to ≡ 0) (letters_of (batches_put to (log_of world from)))
+  counts_to_first : (from to : ℕ) →
+      AllByRecursion (λ l. is_count l ≡ true → to ≡ 0) (letters_of (batches_put to (log_of world from)))
   counts_to_first from to = elim (cases_eq to 0) [
     | inl first ↦ every _ _ (λ l _. first)
     | inr other ↦ all_weaker (λ l. is_count l ≡ false) _ _ (λ l none is. absurd (false≢true (sym none ∙ is)))
         (none_kept is_count _ ((alone world base from).ordered.to_first to other))
   ]
 
-  in_time : (from to : ℕ) → to < world.layout.ranks → (l : Letter) → IsTrueCount from (log_of world from) l × IsTrueTotal world l →
-      (is_count l ≡ true → to ≡ 0) → too_soon (local world to) from l ≡ false
-  in_time from to inside l says first = or_from _ _
-      (and_if _ _ (λ is. le-ltb (totals from (log_of world to)) (round_of l) (rw (first is) (sent_before from (round_of l) (says.0 is).put))))
-      (and_if _ _ (λ is. ap not (lt-ltb (round_of l) (counts (log_of world to)) ((says.1 is).0 to inside))))
+  -- a letter that is true, and to rank 0 if it is a Count, doesn't come too soon
+  abbrev Says : ℕ → ℕ → Letter → Type 0
+  Says from to l = IsTrueCount from (log_of world from) l × (is_count l ≡ true → to ≡ 0)
+
+  in_time : (from to : ℕ) → to < world.layout.ranks → (l : Letter) → Says from to l → IsTrueTotal world l →
+      too_soon (local world to) from l ≡ false
+  in_time from to inside l says total =
+      let sent : is_count l ≡ true → round_of l ≤ totals from (log_of world to) =
+      λ is. rw (says.1 is) (sent_before from (round_of l) (says.0 is).put) in
+      or_from _ _ (and_if _ _ (λ is. le-ltb _ (round_of l) (sent is)))
+      (and_if _ _ (λ is. ap not (lt-ltb (round_of l) (counts (log_of world to)) ((total is).0 to inside))))
 
   -- the next batch of a link has no letter that comes too soon
   pub next_in_turn : (from to : ℕ) (letters : List Letter) → to < world.layout.ranks →
@@ -135,9 +152,10 @@ module _ (world : Logs) (base : Base world) (core : Core world) where
   next_in_turn from to letters inside next =
       let counts_true = each_put _ (log_of world from) (core.numbered from).each to in
       let totals_true = each_put _ (log_of world from) (core.totals from) to in
-      let both = both_of _ _ (λ l. IsTrueCount from (log_of world from) l × IsTrueTotal world l) _ (λ l a b. (a, b)) counts_true totals_true in
-      let each = both_of _ _ (λ l. too_soon (local world to) from l ≡ false) _ (in_time from to inside) both (counts_to_first from to) in
-      none_any _ letters (of_batch _ (batches_put to (log_of world from)) (length (batches_taken from (log_of world to))) letters each next)
+      let says = both_of _ _ (Says from to) _ (λ l a b. (a, b)) counts_true (counts_to_first from to) in
+      let P : Letter → Type 0 = λ l. too_soon (local world to) from l ≡ false in
+      let each = both_of _ _ P _ (in_time from to inside) says totals_true in
+      none_any _ letters (of_batch P _ (length (batches_taken from (log_of world to))) letters each next)
 
   pub are_in_turn : ((rank : ℕ) → rank < world.layout.ranks → TookInTurn (local world rank)) →
       (rank : ℕ) → rank < world.layout.ranks → AreInTurn (local world rank)
