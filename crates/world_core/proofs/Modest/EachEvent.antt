@@ -12,7 +12,7 @@ use Rattle.world_core.specs.declared.entry.Entry.{Entry}
 use Rattle.world_core.specs.declared.entry.Entry.TheVariants.{Put, Took}
 use Rattle.world_core.specs.Local.{local_rank}
 use Rattle.world_core.specs.Log.{batches_put, batches_taken}
-use Rattle.world_core.specs.Modest.{AreInTurn, IsWorld, too_soon}
+use Rattle.world_core.specs.Modest.{IsWorld, too_soon}
 use Rattle.world_core.specs.Rules.{first_broken, IsHonest}
 use Rattle.world_core.specs.Rules.Deed.{Puts}
 use Rattle.world_core.specs.Sound.{LinksAgree}
