@@ -22,7 +22,6 @@ ghost use Rattle.world_core.specs.World.{Logs, fresh, gaining, link, local, log_
 use crate::Limits;
 
 /// A world in which nothing happened yet is sound.
-#[tactic(auto, using(crate::proofs::Modest::EachEvent::fresh_is_world))]
 pub fn a_fresh_world_is_sound()
     ensures { (layout : Shape) (scheme : Scheme) → IsLayout layout → IsWorld (fresh layout scheme) }
 {}
