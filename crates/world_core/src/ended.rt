@@ -1,5 +1,6 @@
 //! Which rounds of a world ended a barrier.
 ghost use Rattle.std.specs.Prelude.{◌≡◌, ◌<◌};
+ghost use Rattle.world_core.specs.Counts.{counts};
 ghost use Rattle.world_core.specs.Modest.{IsWorld};
 ghost use Rattle.world_core.specs.Trial.{sums_of};
 ghost use Rattle.world_core.specs.Wave.{EndsBarrier, ended_count, is_complete, sums_at};
@@ -20,7 +21,7 @@ impl World {
         let mut ended = 0;
         let mut first: u128 = 0;
         let mut before = Sums { sent: 0, run: 0 };
-        for q in 0..counts(self.log(0)) {
+        for q in 0..self.counted() {
             if !self.is_complete(q) {
                 return ended;
             }
@@ -43,7 +44,7 @@ impl World {
         let mut ended = 0;
         let mut first: u128 = 0;
         let mut before = Sums { sent: 0, run: 0 };
-        for q in 0..counts(self.log(0)) {
+        for q in 0..self.counted() {
             let sums = self.sums_at(q);
             if ends_from(first, u128::from(q), before, sums) {
                 if ended == k {
@@ -55,6 +56,16 @@ impl World {
             before = sums;
         }
         ended
+    }
+
+    /// The number of Counts that rank 0 put: no more rounds are complete.
+    fn counted(&self) -> u64
+        ensures counts { result ≡ counts (log_of self.now 0) }
+        ensures sound { IsWorld self.now }
+    {
+        // There is a rank 0.
+        let _ = self.ranks();
+        counts(self.log(0))
     }
 
     /// Whether each rank has put its Count of a round.
