@@ -68,19 +68,20 @@ impl Run {
 fn a_barrier_waits_for_forwards_and_answers(rt: HostRuntime) -> Result<(), Fail> {
     for scheme in [Scheme::Direct, Scheme::Nr, Scheme::Nlnr] {
         let mut run = Run::new(rt.alloc(), scheme)?;
-        // Each rank sent a letter to each, and some are in transit, or at a rank between.
-        run.turn(0, 1)?;
+        // Each rank sent a letter to each. Those of rank 0 were forwarded, and all are in transit.
+        run.send_all(0)?;
+        run.empty_link(1, 0)?;
+        run.empty_link(2, 0)?;
         run.round(0)?;
-        // Rank 3 took a letter since it counted, and answers.
+        // Rank 3 takes a letter after its Count, and answers.
         run.empty_link(3, 2)?;
-        run.empty_link(3, 1)?;
         run.send_on(3, (0, 3, 16, 1))?;
         run.round(1)?;
         run.settle()?;
         run.round(2)?;
         run.round(3)?;
         assert_eq!(rt; rounds_ended(rt.alloc(), &run.world)?.as_slice(), [3].as_slice());
-        run.turn(2, 1)?;
+        run.send_all(2)?;
         run.round(4)?;
         run.settle()?;
         run.round(5)?;

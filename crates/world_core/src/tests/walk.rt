@@ -194,13 +194,13 @@ impl Walk {
     fn event(&mut self) -> Result<Event, Fail> {
         let rank = self.below(self.ranks);
         let other = self.below(self.ranks);
-        match self.below(10) {
-            0..=2 => {
+        match self.below(32) {
+            0 => {
                 self.byte = self.byte.wrapping_add(1);
                 Ok(put(self.alloc, rank, other, &[(other, rank, 16, self.byte)])?)
             }
-            3..=6 => Ok(take(rank, other)),
-            7..=8 => {
+            1..=20 => Ok(take(rank, other)),
+            21..=26 => {
                 let control = self.count(rank)?;
                 Ok(control_put(self.alloc, rank, 0, control)?)
             }
@@ -296,7 +296,7 @@ fn random_events_keep_the_rounds_true(rt: HostRuntime) -> Result<(), Fail> {
         let mut walk = Walk::new(rt.alloc(), ranks, seed)?;
         let mut ended = 0;
         for _ in 0..10 {
-            walk.try_events(100)?;
+            walk.try_events(200)?;
             ended = compare(&rt, &walk)?;
         }
         assert!(rt; ended > 4, "{ended} barriers ended");
