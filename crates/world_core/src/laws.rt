@@ -22,7 +22,6 @@ ghost use Rattle.world_core.specs.World.{Logs, fresh, gaining, link, local, log_
 use crate::Limits;
 
 /// A world in which nothing happened yet is sound.
-#[tactic(auto, using(crate::proofs::Modest::EachEvent::fresh_is_world))]
 pub fn a_fresh_world_is_sound()
     ensures { (layout : Shape) (scheme : Scheme) → IsLayout layout → IsWorld (fresh layout scheme) }
 {}
@@ -85,7 +84,7 @@ pub fn letters_are_the_same_where_they_are_equal()
 {}
 
 /// A worked case of the definitions: of two takes after one put, the second is refused.
-#[tactic(auto, unfolding(crate::specs::Rules::first_broken, crate::specs::Local::to_forward, crate::specs::Local::is_between, ygm_route::specs::Path::path, ygm_route::specs::Hop::hop))]
+#[tactic(auto, unfolding(crate::specs::Rules::first_broken, crate::specs::Pairs::sent_number, ygm_route::specs::Hop::hop))]
 pub fn a_second_take_is_refused()
     ensures put { refusal start (PutEvent 0 1 (one ∷ [])) ≡ None }
     ensures first { refusal one_put (Take 1 0) ≡ None }
