@@ -5,13 +5,19 @@ ghost use Rattle.msg_codec.specs.Control.{is_control, is_count, is_total, round_
 ghost use Rattle.msg_codec.specs.Letter.{letter_of};
 ghost use Rattle.world_core.specs.Counts.{before_count, count_taken, counts, is_count_of, is_total_to, puts_count, total_taken, totals};
 ghost use Rattle.world_core.specs.Pairs.{own_count, run_count};
-ghost use Rattle.world_core.specs.Trial.{sums_read};
+ghost use Rattle.world_core.specs.Trial.{numbers_read};
 
 use crate::Entry;
 use crate::kinds::{is_control, is_count, is_total};
-use crate::known_rounds::Sums;
 use crate::search::{run_by, sent_by};
 use msg_codec::{Control, LetterRef, Letters, control_of};
+
+/// The numbers of letters sent and run that a control letter carries.
+#[derive(Clone, Copy)]
+pub struct Numbers {
+    pub sent: u64,
+    pub run: u64,
+}
 
 /// Whether a batch has a control letter.
 #[tactic(auto, using(list_facts::proofs::Tests::any_hit, list_facts::proofs::Tests::any_none, list_facts::proofs::Tests::any_all))]
@@ -134,9 +140,9 @@ fn total_number(letters: &Letters) -> u64
     count
 }
 
-/// The sums in the Count of a round that a log took from a rank.
-pub fn count_taken(log: &[Entry], rank: u32, q: u64) -> Option<Sums>
-    ensures { result ≡ option_map sums_read (count_taken rank q log.now) }
+/// The numbers in the Count of a round that a log took from a rank.
+pub fn count_taken(log: &[Entry], rank: u32, q: u64) -> Option<Numbers>
+    ensures { result ≡ option_map numbers_read (count_taken rank q log.now) }
 {
     for entry in log {
         let found = count_by(entry, rank, q);
@@ -147,9 +153,9 @@ pub fn count_taken(log: &[Entry], rank: u32, q: u64) -> Option<Sums>
     None
 }
 
-/// The sums in the Count of a round that an entry took from a rank.
-fn count_by(entry: &Entry, rank: u32, q: u64) -> Option<Sums>
-    ensures { result ≡ option_map sums_read (count_taken rank q (entry.now ∷ [])) }
+/// The numbers in the Count of a round that an entry took from a rank.
+fn count_by(entry: &Entry, rank: u32, q: u64) -> Option<Numbers>
+    ensures { result ≡ option_map numbers_read (count_taken rank q (entry.now ∷ [])) }
 {
     match entry {
         Entry::Took { from, letters } if *from == rank => count_in(letters, rank, q),
@@ -157,9 +163,9 @@ fn count_by(entry: &Entry, rank: u32, q: u64) -> Option<Sums>
     }
 }
 
-/// The sums in the first Count of a round of a rank in a batch.
-fn count_in(letters: &Letters, rank: u32, q: u64) -> Option<Sums>
-    ensures { result ≡ option_map sums_read (find (λ l. is_count_of rank l && (round_of l == q)) letters.now) }
+/// The numbers in the first Count of a round of a rank in a batch.
+fn count_in(letters: &Letters, rank: u32, q: u64) -> Option<Numbers>
+    ensures { result ≡ option_map numbers_read (find (λ l. is_count_of rank l && (round_of l == q)) letters.now) }
 {
     for k in 0..letters.count() {
         let found = read_count(letters.letter_at(k), rank, q);
@@ -170,22 +176,22 @@ fn count_in(letters: &Letters, rank: u32, q: u64) -> Option<Sums>
     None
 }
 
-/// The sums in a letter that is the Count of a round of a rank.
-fn read_count(l: LetterRef<'_>, rank: u32, q: u64) -> Option<Sums>
+/// The numbers in a letter that is the Count of a round of a rank.
+fn read_count(l: LetterRef<'_>, rank: u32, q: u64) -> Option<Numbers>
     ensures { result ≡ (if is_count_of rank (letter_of l.entry) && (round_of (letter_of l.entry) == q)
-        then Some (sums_read (letter_of l.entry)) else None) }
+        then Some (numbers_read (letter_of l.entry)) else None) }
 {
     match control_of(l) {
         Some(Control::Count { rank: from, q: round, s, r }) if from == rank && round == q => {
-            Some(Sums { sent: u128::from(s), run: u128::from(r) })
+            Some(Numbers { sent: s, run: r })
         }
         _ => None,
     }
 }
 
-/// The sums in the Total of a round that the log of a rank took.
-pub fn total_taken(log: &[Entry], here: u32, q: u128) -> Option<Sums>
-    ensures { result ≡ option_map sums_read (total_taken here q log.now) }
+/// The numbers in the Total of a round that the log of a rank took.
+pub fn total_taken(log: &[Entry], here: u32, q: u128) -> Option<Numbers>
+    ensures { result ≡ option_map numbers_read (total_taken here q log.now) }
 {
     for entry in log {
         let found = total_by(entry, here, q);
@@ -196,9 +202,9 @@ pub fn total_taken(log: &[Entry], here: u32, q: u128) -> Option<Sums>
     None
 }
 
-/// The sums in the Total of a round that an entry of a rank took.
-fn total_by(entry: &Entry, here: u32, q: u128) -> Option<Sums>
-    ensures { result ≡ option_map sums_read (total_taken here q (entry.now ∷ [])) }
+/// The numbers in the Total of a round that an entry of a rank took.
+fn total_by(entry: &Entry, here: u32, q: u128) -> Option<Numbers>
+    ensures { result ≡ option_map numbers_read (total_taken here q (entry.now ∷ [])) }
 {
     match entry {
         Entry::Took { from, letters } if *from == 0 => total_in(letters, here, q),
@@ -206,9 +212,9 @@ fn total_by(entry: &Entry, here: u32, q: u128) -> Option<Sums>
     }
 }
 
-/// The sums in the first Total of a round to a rank in a batch.
-fn total_in(letters: &Letters, here: u32, q: u128) -> Option<Sums>
-    ensures { result ≡ option_map sums_read (find (λ l. is_total_to here l && (round_of l == q)) letters.now) }
+/// The numbers in the first Total of a round to a rank in a batch.
+fn total_in(letters: &Letters, here: u32, q: u128) -> Option<Numbers>
+    ensures { result ≡ option_map numbers_read (find (λ l. is_total_to here l && (round_of l == q)) letters.now) }
 {
     for k in 0..letters.count() {
         let found = read_total(letters.letter_at(k), here, q);
@@ -219,14 +225,14 @@ fn total_in(letters: &Letters, here: u32, q: u128) -> Option<Sums>
     None
 }
 
-/// The sums in a letter that is the Total of a round to a rank.
-fn read_total(l: LetterRef<'_>, here: u32, q: u128) -> Option<Sums>
+/// The numbers in a letter that is the Total of a round to a rank.
+fn read_total(l: LetterRef<'_>, here: u32, q: u128) -> Option<Numbers>
     ensures { result ≡ (if is_total_to here (letter_of l.entry) && (round_of (letter_of l.entry) == q)
-        then Some (sums_read (letter_of l.entry)) else None) }
+        then Some (numbers_read (letter_of l.entry)) else None) }
 {
     match control_of(l) {
         Some(Control::Total { to, q: round, s, r }) if to == here && u128::from(round) == q => {
-            Some(Sums { sent: u128::from(s), run: u128::from(r) })
+            Some(Numbers { sent: s, run: r })
         }
         _ => None,
     }

@@ -24,13 +24,19 @@ pub fn refusal_of_control(me: &Trial<'_>, to: u32, l: LetterRef<'_>) -> Option<W
     ensures { result ≡ first_broken_of control_rules (local_tried me.now) (Puts to (letter_of l.entry ∷ [])) }
 {
     match control_of(l) {
-        Some(Control::Count { rank, q, s, r }) if rank == me.here && to == 0 => {
+        Some(Control::Count { rank, q, s, r }) => {
+            if rank != me.here || to != 0 {
+                return Some(Why::WrongControl);
+            }
             refusal_of_count(me, q, s, r)
         }
-        Some(Control::Total { to: rank, q, s, r }) if me.here == 0 && rank == to => {
+        Some(Control::Total { to: rank, q, s, r }) => {
+            if me.here != 0 || rank != to {
+                return Some(Why::WrongControl);
+            }
             refusal_of_total(me, to, q, s, r)
         }
-        _ => Some(Why::WrongControl),
+        None => Some(Why::WrongControl),
     }
 }
 
@@ -89,9 +95,10 @@ fn holds_pair(me: &Trial<'_>, from: u32, to: u32) -> bool
     requires to_within { to < me.now.layout.now.ranks }
     ensures { result ≡ nat_lt 0 (length (to_forward (local_tried me.now) from to)) }
 {
-    from != me.here
-        && to != me.here
-        && pair_put_count(me.log, from, to) < pair_taken_count(me.log, from, to)
+    if from == me.here || to == me.here {
+        return false;
+    }
+    pair_put_count(me.log, from, to) < pair_taken_count(me.log, from, to)
 }
 
 /// Whether a Count with these numbers of letters sent and run doesn't carry what the log says.
@@ -151,8 +158,8 @@ fn sums_taken(me: &Trial<'_>, q: u64) -> Sums
     let mut sums = Sums { sent: 0, run: 0 };
     for rank in 0..me.layout.ranks() {
         if let Some(one) = count_taken(me.log, rank, q) {
-            sums.sent += one.sent;
-            sums.run += one.run;
+            sums.sent += u128::from(one.sent);
+            sums.run += u128::from(one.run);
         }
     }
     sums

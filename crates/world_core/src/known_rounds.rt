@@ -37,7 +37,11 @@ pub fn barrier_start(log: &[Entry], here: u32) -> u128
     for q in 0..taken_len(log) {
         match total_taken(log, here, q) {
             None => return first,
-            Some(sums) => {
+            Some(told) => {
+                let sums = Sums {
+                    sent: u128::from(told.sent),
+                    run: u128::from(told.run),
+                };
                 if ends_from(first, q, before, sums) {
                     first = q + 1;
                 }

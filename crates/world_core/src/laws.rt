@@ -90,8 +90,3 @@ pub fn a_second_take_is_refused()
     ensures first { refusal one_put (Take 1 0) ≡ None }
     ensures second { refusal (after one_put (Take 1 0)) (Take 1 0) ≡ Some NothingThere }
 {}
-
-#[tactic(auto, using(crate::proofs::Counts::Stepwise::taken_here))]
-pub fn probe()
-    ensures { (x : ℕ) → x ≡ x }
-{}

@@ -3,7 +3,7 @@ use Rattle.std.proofs.lemmas.Option.{slice_get_read}
 use Rattle.msg_codec.specs.Control.{round_of}
 use Rattle.msg_codec.specs.declared.letter.Letter.{Letter}
 use Rattle.world_core.specs.Counts.{count_taken, is_count_of}
-use Rattle.world_core.proofs.Counts.SumsRead.{log_here, log_next}
+use Rattle.world_core.proofs.Counts.NumbersRead.{log_here, log_next}
 use Rattle.world_core.proofs.control_letters.count_taken.Goals as goal
 
 pub loop-entry-init : goal.loop-entry-init

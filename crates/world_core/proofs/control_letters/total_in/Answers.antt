@@ -3,7 +3,7 @@ use Rattle.msg_codec.specs.Control.{round_of}
 use Rattle.msg_codec.specs.Letter.{letter_of}
 use Rattle.msg_codec.specs.declared.letter.Letter.{Letter}
 use Rattle.world_core.specs.Counts.{is_total_to}
-use Rattle.world_core.proofs.Counts.SumsRead.{read_here, read_next}
+use Rattle.world_core.proofs.Counts.NumbersRead.{read_here, read_next}
 use Rattle.world_core.proofs.control_letters.total_in.Goals as goal
 
 pub returns-then-is_some : goal.returns-then-is_some

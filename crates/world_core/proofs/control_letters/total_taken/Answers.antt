@@ -3,7 +3,7 @@ use Rattle.std.proofs.lemmas.Option.{slice_get_read}
 use Rattle.msg_codec.specs.Control.{round_of}
 use Rattle.msg_codec.specs.declared.letter.Letter.{Letter}
 use Rattle.world_core.specs.Counts.{total_taken, is_total_to}
-use Rattle.world_core.proofs.Counts.SumsRead.{log_here, log_next}
+use Rattle.world_core.proofs.Counts.NumbersRead.{log_here, log_next}
 use Rattle.world_core.proofs.control_letters.total_taken.Goals as goal
 
 pub loop-entry-init : goal.loop-entry-init

@@ -13,13 +13,13 @@ next_hop-requires-clause-to_within c =
 pub returns-then-next_hop-to : goal.returns-then-next_hop-to
 returns-then-next_hop-to c =
     let x = letter_of c.letter_at-l.result in
-    let tagged = letter_data (local_tried c.args.me.now) c.args.to c.args.letters.now c.loop-k.k x c.letter_at-l.ensures c.requires.tags in
+    let tagged = letter_data c.args.letters.now c.loop-k.k x c.letter_at-l.ensures c.requires.kind in
     sym (letters_hit wrong_hop c.args.letters.now c.loop-k.k x (local_tried c.args.me.now) c.args.to c.letter_at-l.ensures
     (hop_wrong (local_tried c.args.me.now) c.args.to c.next_hop.result x tagged c.next_hop.ensures.value c.if-next_hop-to.true))
 
 pub loop-k-preserved : goal.loop-k-preserved
 loop-k-preserved c =
     let x = letter_of c.letter_at-l.result in
-    let tagged = letter_data (local_tried c.args.me.now) c.args.to c.args.letters.now c.loop-k.k x c.letter_at-l.ensures c.requires.tags in
+    let tagged = letter_data c.args.letters.now c.loop-k.k x c.letter_at-l.ensures c.requires.kind in
     letters_none wrong_hop c.args.letters.now c.loop-k.k x (local_tried c.args.me.now) c.args.to c.letter_at-l.ensures
     (hop_right (local_tried c.args.me.now) c.args.to c.next_hop.result x tagged c.next_hop.ensures.value c.if-next_hop-to.false) c.loop-k.invariant

@@ -1,8 +1,8 @@
 use Rattle.std.proofs.Common.{◌≡◌, ◌+◌, pred, refl, sym, ap, ◌∙◌, add-one, below_more, arith}
 use Rattle.world_core.specs.Counts.{total_taken}
-use Rattle.world_core.specs.Rounds.{ends, first_round, sums_told}
+use Rattle.world_core.specs.Rounds.{Sums, ends, first_round, sums_told}
 use Rattle.world_core.specs.Trial.{sums_of}
-use Rattle.world_core.proofs.Counts.SumsRead.{read_nothing, read_some}
+use Rattle.world_core.proofs.Counts.NumbersRead.{read_nothing, read_some}
 use Rattle.world_core.proofs.Rounds.Stepwise.{ends_now, first_next, start_is}
 use Rattle.world_core.proofs.known_rounds.barrier_start.Goals as goal
 use Rattle.world_core.proofs.known_rounds.barrier_start.Goals.{then-ends_from, else-ends_from}
@@ -20,11 +20,13 @@ returns-in-None c =
 pub loop-q-preserved : goal.loop-q-preserved
 loop-q-preserved c =
     let told = sums_told c.args.here c.args.log.now in
-    let read = read_some (total_taken c.args.here c.loop-q.q c.args.log.now) c.in-Some.sums (sym c.in-Some.is ∙ c.total_taken.ensures) in
+    let read = read_some (total_taken c.args.here c.loop-q.q c.args.log.now) c.in-Some.told (sym c.in-Some.is ∙ c.total_taken.ensures) in
     let known = below_more _ _ c.loop-q.invariant.known read.0 in
-    let this : sums_of c.in-Some.sums ≡ told (pred (c.loop-q.q + 1)) = rw (add-one c.loop-q.q) read.1 in
+    let sums : Sums = record { sent = c.from.result; run = c.from-in-Some.result } in
+    let now : sums ≡ told c.loop-q.q = rw (c.from.ensures, c.from-in-Some.ensures) read.1 in
+    let this : sums ≡ told (pred (c.loop-q.q + 1)) = rw (add-one c.loop-q.q) now in
     let ended : c.ends_from.result ≡ ends told c.loop-q.q =
-    c.ends_from.ensures ∙ ends_now told c.loop-q.q c.loop-q.first (sums_of c.loop-q.before) (sums_of c.in-Some.sums) c.loop-q.invariant.first c.loop-q.invariant.before read.1 in
+    c.ends_from.ensures ∙ ends_now told c.loop-q.q c.loop-q.first (sums_of c.loop-q.before) sums c.loop-q.invariant.first c.loop-q.invariant.before now in
     elim c.if-ends_from.branch [
       | then-ends_from w ↦
           let more = rw (sym ended ∙ w.if-ends_from.true) at (first_next told c.loop-q.q) in
