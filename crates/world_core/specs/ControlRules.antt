@@ -33,7 +33,7 @@ wrong_control me to l =
 abbrev pub count_early : Local → ℕ → Letter → Bool
 count_early me to l =
     is_count l && (not (round_of l == counts me.log)
-        || (nat_lt 0 (round_of l) && not (is_some (total_taken me.here (pred (round_of l)) me.log))))
+    || (nat_lt 0 (round_of l) && not (is_some (total_taken me.here (pred (round_of l)) me.log))))
 
 abbrev pub has_to_forward : Local → Bool
 has_to_forward me = some_below (λ s. some_below (λ d. nat_lt 0 (length (to_forward me s d))) me.layout.ranks) me.layout.ranks
@@ -47,7 +47,7 @@ count_wrong me to l = is_count l && not ((sent_of l == own_count me.here me.log)
 abbrev pub total_early : Local → ℕ → Letter → Bool
 total_early me to l =
     is_total l && (not (round_of l == totals to me.log)
-        || some_below (λ j. not (is_some (count_taken j (round_of l) me.log))) me.layout.ranks)
+    || some_below (λ j. not (is_some (count_taken j (round_of l) me.log))) me.layout.ranks)
 
 -- the sums of the Counts of a round that a rank took
 abbrev pub sent_taken : Local → ℕ → ℕ

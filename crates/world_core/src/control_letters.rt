@@ -182,9 +182,14 @@ fn read_count(l: LetterRef<'_>, rank: u32, q: u64) -> Option<Numbers>
         then Some (numbers_read (letter_of l.entry)) else None) }
 {
     match control_of(l) {
-        Some(Control::Count { rank: from, q: round, s, r }) if from == rank && round == q => {
-            Some(Numbers { sent: s, run: r })
-        }
+        Some(
+            Control::Count {
+                rank: from,
+                q: round,
+                s,
+                r,
+            },
+        ) if from == rank && round == q => { Some(Numbers { sent: s, run: r }) }
         _ => None,
     }
 }

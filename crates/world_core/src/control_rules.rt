@@ -60,8 +60,7 @@ fn refusal_of_count(me: &Trial<'_>, q: u64, s: u64, r: u64) -> Option<Why>
 fn is_count_early(me: &Trial<'_>, q: u64) -> bool
     ensures { (to : ℕ) (l : Letter) → is_count l ≡ true → round_of l ≡ q → result ≡ count_early (local_tried me.now) to l }
 {
-    q != counts(me.log)
-        || (q > 0 && total_taken(me.log, me.here, u128::from(q - 1)).is_none())
+    q != counts(me.log) || (q > 0 && total_taken(me.log, me.here, u128::from(q - 1)).is_none())
 }
 
 /// Whether the rank has a letter to forward.

@@ -80,13 +80,19 @@ fn a_barrier_waits_for_forwards_and_answers(rt: HostRuntime) -> Result<(), Fail>
         run.settle()?;
         run.round(2)?;
         run.round(3)?;
-        assert_eq!(rt; rounds_ended(rt.alloc(), &run.world)?.as_slice(), [3].as_slice());
+        assert_eq!(rt;
+            rounds_ended(rt.alloc(), &run.world)?.as_slice(),
+            [3].as_slice()
+        );
         run.send_all(2)?;
         run.round(4)?;
         run.settle()?;
         run.round(5)?;
         run.round(6)?;
-        assert_eq!(rt; rounds_ended(rt.alloc(), &run.world)?.as_slice(), [3, 6].as_slice());
+        assert_eq!(rt;
+            rounds_ended(rt.alloc(), &run.world)?.as_slice(),
+            [3, 6].as_slice()
+        );
     }
     Ok(())
 }

@@ -134,20 +134,47 @@ fn outcome_of(
 /// differs from round 0, and round 2 agrees with round 1.
 fn a_letter_in_transit(alloc: Global) -> Result<Vec<Step>, AllocError> {
     let sent = [
-        data(1, 0), count(0, 0, 0, 0), takes(0, 1), data(0, 1), data(0, 2),
-        takes(1, 0), count(1, 0, 1, 1), count(2, 0, 0, 0),
-        takes(0, 0), takes(0, 1), takes(0, 2),
-        total(1, 0, 1, 1), total(2, 0, 1, 1), total(0, 0, 1, 1),
-        takes(0, 0), takes(1, 0), takes(2, 0), takes(2, 0),
+        data(1, 0),
+        count(0, 0, 0, 0),
+        takes(0, 1),
+        data(0, 1),
+        data(0, 2),
+        takes(1, 0),
+        count(1, 0, 1, 1),
+        count(2, 0, 0, 0),
+        takes(0, 0),
+        takes(0, 1),
+        takes(0, 2),
+        total(1, 0, 1, 1),
+        total(2, 0, 1, 1),
+        total(0, 0, 1, 1),
+        takes(0, 0),
+        takes(1, 0),
+        takes(2, 0),
+        takes(2, 0),
     ];
     let counted_again = [
-        count(0, 1, 2, 1), count(1, 1, 1, 1), count(2, 1, 0, 1),
-        takes(0, 0), takes(0, 1), takes(0, 2),
-        total(1, 1, 3, 3), total(2, 1, 3, 3), total(0, 1, 3, 3),
-        takes(0, 0), takes(1, 0), takes(2, 0),
-        count(0, 2, 2, 1), count(1, 2, 1, 1), count(2, 2, 0, 1),
-        takes(0, 0), takes(0, 1), takes(0, 2),
-        total(1, 2, 3, 3), total(2, 2, 3, 3), total(0, 2, 3, 3),
+        count(0, 1, 2, 1),
+        count(1, 1, 1, 1),
+        count(2, 1, 0, 1),
+        takes(0, 0),
+        takes(0, 1),
+        takes(0, 2),
+        total(1, 1, 3, 3),
+        total(2, 1, 3, 3),
+        total(0, 1, 3, 3),
+        takes(0, 0),
+        takes(1, 0),
+        takes(2, 0),
+        count(0, 2, 2, 1),
+        count(1, 2, 1, 1),
+        count(2, 2, 0, 1),
+        takes(0, 0),
+        takes(0, 1),
+        takes(0, 2),
+        total(1, 2, 3, 3),
+        total(2, 2, 3, 3),
+        total(0, 2, 3, 3),
     ];
     let mut steps = Vec::from_array(alloc, sent)?;
     for step in counted_again {
@@ -161,18 +188,37 @@ fn two_rounds_that_agree_end_a_barrier(rt: HostRuntime) -> Result<(), Fail> {
     let alloc = rt.alloc();
     let layout = Layout::new(3, 1)?;
     let steps = a_letter_in_transit(alloc)?;
-    for (len, ended) in [(18, (0, None)), (30, (0, None)), (32, (0, None)), (33, (1, Some(2))), (39, (1, Some(2)))] {
+    for (len, ended) in [
+        (18, (0, None)),
+        (30, (0, None)),
+        (32, (0, None)),
+        (33, (1, Some(2))),
+        (39, (1, Some(2))),
+    ] {
         let part = steps.get(..len).ok_or("the script has 39 events")?;
-        assert_eq!(rt; outcome_of(alloc, layout, Scheme::Direct, part)?, Ok(ended), "{len} events");
+        assert_eq!(rt;
+            outcome_of(alloc, layout, Scheme::Direct, part)?,
+            Ok(ended),
+            "{len} events"
+        );
     }
     Ok(())
 }
 
 /// These events are refused at the last one, for this rule. The ranks are on nodes of two, or there is one rank.
-fn refuses(rt: &impl Abort, alloc: Global, ranks: u32, why: Why, steps: &[Step]) -> Result<(), Fail> {
+fn refuses(
+    rt: &impl Abort,
+    alloc: Global,
+    ranks: u32,
+    why: Why,
+    steps: &[Step],
+) -> Result<(), Fail> {
     let last = steps.len().checked_sub(1).ok_or("a script has an event")? as u64;
     let layout = Layout::new(ranks, ranks.min(2))?;
-    assert_eq!(rt; outcome_of(alloc, layout, Scheme::Nr, steps)?, Err((last, why)));
+    assert_eq!(rt;
+        outcome_of(alloc, layout, Scheme::Nr, steps)?,
+        Err((last, why))
+    );
     Ok(())
 }
 
@@ -188,11 +234,66 @@ fn each_rule_of_control_letters_refuses(rt: HostRuntime) -> Result<(), Fail> {
         (Why::BadTag, &[Step::Puts(1, 0, Put::Other(1, 240, 23))]),
         (Why::MixedControl, &[Step::Puts(1, 0, Put::Mixed(1))]),
         (Why::SentWhileCounted, &[count(1, 0, 0, 0), data(1, 0)]),
-        (Why::WrongControl, &[over(1, 1, Control::Count { rank: 1, q: 0, s: 0, r: 0 })]),
-        (Why::WrongControl, &[over(1, 0, Control::Count { rank: 2, q: 0, s: 0, r: 0 })]),
-        (Why::WrongControl, &[over(0, 1, Control::Total { to: 2, q: 0, s: 0, r: 0 })]),
-        (Why::WrongControl, &[over(1, 1, Control::Total { to: 1, q: 0, s: 0, r: 0 })]),
-        (Why::CountUnforwarded, &[Step::Puts(0, 2, Put::Data(0, 3)), takes(2, 0), count(2, 0, 0, 0)]),
+        (
+            Why::WrongControl,
+            &[over(
+                1,
+                1,
+                Control::Count {
+                    rank: 1,
+                    q: 0,
+                    s: 0,
+                    r: 0,
+                },
+            )],
+        ),
+        (
+            Why::WrongControl,
+            &[over(
+                1,
+                0,
+                Control::Count {
+                    rank: 2,
+                    q: 0,
+                    s: 0,
+                    r: 0,
+                },
+            )],
+        ),
+        (
+            Why::WrongControl,
+            &[over(
+                0,
+                1,
+                Control::Total {
+                    to: 2,
+                    q: 0,
+                    s: 0,
+                    r: 0,
+                },
+            )],
+        ),
+        (
+            Why::WrongControl,
+            &[over(
+                1,
+                1,
+                Control::Total {
+                    to: 1,
+                    q: 0,
+                    s: 0,
+                    r: 0,
+                },
+            )],
+        ),
+        (
+            Why::CountUnforwarded,
+            &[
+                Step::Puts(0, 2, Put::Data(0, 3)),
+                takes(2, 0),
+                count(2, 0, 0, 0),
+            ],
+        ),
     ];
     for (why, steps) in rows {
         refuses(&rt, alloc, 4, why, steps)?;
@@ -208,13 +309,42 @@ fn each_rule_of_counts_and_totals_refuses(rt: HostRuntime) -> Result<(), Fail> {
         (4, Why::CountEarly, &[count(1, 0, 0, 0), count(1, 0, 0, 0)]),
         (4, Why::CountEarly, &[count(1, 0, 0, 0), count(1, 1, 0, 0)]),
         (4, Why::CountWrong, &[data(1, 0), count(1, 0, 0, 0)]),
-        (4, Why::CountWrong, &[data(1, 0), takes(0, 1), count(0, 0, 0, 0)]),
+        (
+            4,
+            Why::CountWrong,
+            &[data(1, 0), takes(0, 1), count(0, 0, 0, 0)],
+        ),
         (1, Why::TotalEarly, &[count(0, 0, 0, 0), total(0, 0, 0, 0)]),
-        (1, Why::TotalEarly, &[count(0, 0, 0, 0), takes(0, 0), total(0, 1, 0, 0)]),
-        (2, Why::TotalEarly, &[count(0, 0, 0, 0), takes(0, 0), total(0, 0, 0, 0)]),
-        (1, Why::TotalEarly, &[count(0, 0, 0, 0), takes(0, 0), total(0, 0, 0, 0), total(0, 0, 0, 0)]),
-        (1, Why::TotalWrong, &[count(0, 0, 0, 0), takes(0, 0), total(0, 0, 1, 0)]),
-        (1, Why::TotalWrong, &[count(0, 0, 0, 0), takes(0, 0), total(0, 0, 0, 1)]),
+        (
+            1,
+            Why::TotalEarly,
+            &[count(0, 0, 0, 0), takes(0, 0), total(0, 1, 0, 0)],
+        ),
+        (
+            2,
+            Why::TotalEarly,
+            &[count(0, 0, 0, 0), takes(0, 0), total(0, 0, 0, 0)],
+        ),
+        (
+            1,
+            Why::TotalEarly,
+            &[
+                count(0, 0, 0, 0),
+                takes(0, 0),
+                total(0, 0, 0, 0),
+                total(0, 0, 0, 0),
+            ],
+        ),
+        (
+            1,
+            Why::TotalWrong,
+            &[count(0, 0, 0, 0), takes(0, 0), total(0, 0, 1, 0)],
+        ),
+        (
+            1,
+            Why::TotalWrong,
+            &[count(0, 0, 0, 0), takes(0, 0), total(0, 0, 0, 1)],
+        ),
     ];
     for (ranks, why, steps) in rows {
         refuses(&rt, alloc, ranks, why, steps)?;
@@ -226,12 +356,56 @@ fn each_rule_of_counts_and_totals_refuses(rt: HostRuntime) -> Result<(), Fail> {
 fn the_first_rule_that_is_broken_is_named(rt: HostRuntime) -> Result<(), Fail> {
     let alloc = rt.alloc();
     let rows: [(Why, &[Step]); 6] = [
-        (Why::NoSuchRank, &[over(1, 0, Control::Count { rank: 4, q: 0, s: 0, r: 0 })]),
-        (Why::BadTag, &[count(1, 0, 0, 0), Step::Puts(1, 0, Put::Other(1, 241, 0))]),
-        (Why::WrongHop, &[count(1, 0, 0, 0), Step::Puts(1, 0, Put::Data(1, 3))]),
-        (Why::WrongControl, &[over(1, 1, Control::Total { to: 1, q: 9, s: 9, r: 9 })]),
-        (Why::CountEarly, &[Step::Puts(0, 2, Put::Data(0, 3)), takes(2, 0), count(2, 7, 7, 7)]),
-        (Why::CountUnforwarded, &[Step::Puts(0, 2, Put::Data(0, 3)), takes(2, 0), count(2, 0, 7, 7)]),
+        (
+            Why::NoSuchRank,
+            &[over(
+                1,
+                0,
+                Control::Count {
+                    rank: 4,
+                    q: 0,
+                    s: 0,
+                    r: 0,
+                },
+            )],
+        ),
+        (
+            Why::BadTag,
+            &[count(1, 0, 0, 0), Step::Puts(1, 0, Put::Other(1, 241, 0))],
+        ),
+        (
+            Why::WrongHop,
+            &[count(1, 0, 0, 0), Step::Puts(1, 0, Put::Data(1, 3))],
+        ),
+        (
+            Why::WrongControl,
+            &[over(
+                1,
+                1,
+                Control::Total {
+                    to: 1,
+                    q: 9,
+                    s: 9,
+                    r: 9,
+                },
+            )],
+        ),
+        (
+            Why::CountEarly,
+            &[
+                Step::Puts(0, 2, Put::Data(0, 3)),
+                takes(2, 0),
+                count(2, 7, 7, 7),
+            ],
+        ),
+        (
+            Why::CountUnforwarded,
+            &[
+                Step::Puts(0, 2, Put::Data(0, 3)),
+                takes(2, 0),
+                count(2, 0, 7, 7),
+            ],
+        ),
     ];
     for (why, steps) in rows {
         refuses(&rt, alloc, 4, why, steps)?;
@@ -248,7 +422,10 @@ fn a_letter_in_transit_may_not_be_answered_late(rt: HostRuntime) -> Result<(), F
     if let Some(step) = steps.get_mut(21) {
         *step = data(2, 1);
     }
-    assert_eq!(rt; outcome_of(alloc, layout, Scheme::Direct, &steps)?, Err((21, Why::SentWhileCounted)));
+    assert_eq!(rt;
+        outcome_of(alloc, layout, Scheme::Direct, &steps)?,
+        Err((21, Why::SentWhileCounted))
+    );
     Ok(())
 }
 
@@ -258,10 +435,18 @@ fn one_rank_ends_a_barrier_with_each_second_round(rt: HostRuntime) -> Result<(),
     let layout = Layout::new(1, 1)?;
     let mut world = World::new(alloc, layout, Scheme::Direct)?;
     for q in 0..4 {
-        for step in [count(0, q, 0, 0), takes(0, 0), total(0, q, 0, 0), takes(0, 0)] {
+        for step in [
+            count(0, q, 0, 0),
+            takes(0, 0),
+            total(0, q, 0, 0),
+            takes(0, 0),
+        ] {
             world.step(event_of(alloc, step)?)?;
         }
     }
-    assert_eq!(rt; (world.ended_count(), rounds_ended(alloc, &world)?.as_slice()), (2, [1, 3].as_slice()));
+    assert_eq!(rt;
+        (world.ended_count(), rounds_ended(alloc, &world)?.as_slice()),
+        (2, [1, 3].as_slice())
+    );
     Ok(())
 }

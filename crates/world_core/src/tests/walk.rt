@@ -15,7 +15,11 @@ type Sums = (u64, u64);
 
 /// Whether this is the batch of a Count.
 fn is_counted(letters: &Letters) -> bool {
-    letters.count() == 1 && matches!(control_of(letters.letter_at(0)), Some(Control::Count { .. }))
+    letters.count() == 1
+        && matches!(
+            control_of(letters.letter_at(0)),
+            Some(Control::Count { .. })
+        )
 }
 
 /// How many of these are data letters, for the rank or from it.
@@ -152,7 +156,10 @@ impl Walk {
         requires { 1 ≤ most }
         ensures { result < most }
     {
-        self.seed = self.seed.wrapping_mul(6364136223846793005).wrapping_add(1442695040888963407);
+        self.seed = self
+            .seed
+            .wrapping_mul(6364136223846793005)
+            .wrapping_add(1442695040888963407);
         ((self.seed >> 33) % u64::from(most)) as u32
     }
 
@@ -173,8 +180,18 @@ impl Walk {
         let (s, r) = *cuts.last().ok_or("the whole log is a cut")?;
         let q = cuts.len() as u64 - 1;
         Ok(match self.below(16) {
-            0 => Control::Count { rank, q, s: s.saturating_add(1), r },
-            1 => Control::Count { rank, q: q.saturating_add(1), s, r },
+            0 => Control::Count {
+                rank,
+                q,
+                s: s.saturating_add(1),
+                r,
+            },
+            1 => Control::Count {
+                rank,
+                q: q.saturating_add(1),
+                s,
+                r,
+            },
             _ => Control::Count { rank, q, s, r },
         })
     }
@@ -185,7 +202,12 @@ impl Walk {
         let q = totals_put(self.world.log(0), to);
         let (s, r) = round_of(&all, q as usize).unwrap_or((0, 0));
         Ok(match self.below(16) {
-            0 => Control::Total { to, q, s, r: r.saturating_add(1) },
+            0 => Control::Total {
+                to,
+                q,
+                s,
+                r: r.saturating_add(1),
+            },
             _ => Control::Total { to, q, s, r },
         })
     }
@@ -261,7 +283,10 @@ fn totals_put(log: &[Entry], rank: u32) -> u64 {
         if let Entry::Put { to, letters } = entry
             && *to == rank
             && letters.count() == 1
-            && matches!(control_of(letters.letter_at(0)), Some(Control::Total { .. }))
+            && matches!(
+                control_of(letters.letter_at(0)),
+                Some(Control::Total { .. })
+            )
         {
             count = count.saturating_add(1);
         }
@@ -269,7 +294,12 @@ fn totals_put(log: &[Entry], rank: u32) -> u64 {
     count
 }
 
-pub(super) fn control_put(alloc: Global, from: u32, to: u32, control: Control) -> Result<Event, AllocError> {
+pub(super) fn control_put(
+    alloc: Global,
+    from: u32,
+    to: u32,
+    control: Control,
+) -> Result<Event, AllocError> {
     Ok(Event::Put {
         from,
         to,
@@ -282,10 +312,16 @@ fn compare(rt: &impl Abort, walk: &Walk) -> Result<usize, Fail> {
     let all = walk.cuts()?;
     let rounds = rounds_of(walk.alloc, &all, walk.world.log(0).len())?;
     let ends = ends_of(walk.alloc, &rounds)?;
-    assert_eq!(rt; rounds_ended(walk.alloc, &walk.world)?.as_slice(), ends.as_slice());
+    assert_eq!(rt;
+        rounds_ended(walk.alloc, &walk.world)?.as_slice(),
+        ends.as_slice()
+    );
     assert!(rt; walk.totals_are_true(&rounds));
     for q in &ends {
-        assert!(rt; walk.is_quiet(q.saturating_sub(1))?, "the cut of the barrier that round {q} ends");
+        assert!(rt;
+            walk.is_quiet(q.saturating_sub(1))?,
+            "the cut of the barrier that round {q} ends"
+        );
     }
     Ok(ends.len())
 }
