@@ -1,0 +1,2 @@
+pub mod NothingAfter
+pub mod Folded
