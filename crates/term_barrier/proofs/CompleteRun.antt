@@ -1,2 +1,2 @@
 pub mod FromAccounts
-pub mod Letters
+pub mod Arrived

@@ -3,4 +3,4 @@ pub mod Cuts
 pub mod Account
 pub mod CountedPlace
 pub mod CompleteRun
-pub mod Ended
+pub mod Passed

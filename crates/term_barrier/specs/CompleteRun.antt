@@ -1,5 +1,5 @@
--- A complete run of the letters that ranks send by themselves: each of them arrived in its phase, and so did all that
--- handlers gave by them, and nothing else did.
+-- Complete runs of the letters that ranks send by themselves: each of them arrives in its phase, and so does each letter that
+-- a handler gives meanwhile, and no other.
 use Rattle.std.specs.Prelude.{ℕ, zero, suc, ◌<◌, IsTrue, List, [], ◌++◌}
 use Rattle.std.specs.List.{AllByRecursion}
 use Rattle.msg_codec.specs.declared.letter.Letter.{Letter}
@@ -15,7 +15,7 @@ OwnLetters = ℕ → ℕ → ℕ → List Letter
 abbrev pub Arrivals : Type 0
 Arrivals = ℕ → ℕ → List Letter
 
--- what arrived at a rank in the phases before this one
+-- what arrives at a rank in the phases before this one
 abbrev pub earlier : (ℕ → List Letter) → ℕ → List Letter
 earlier arrivals zero = []
 earlier arrivals (suc phase) = earlier arrivals phase ++ arrivals phase
@@ -30,7 +30,7 @@ pub record IsArrival (ranks here : ℕ) (l : Letter) : Type 0 where
   pub sender : l.from < ranks
   pub pair : IsTrue (is_of_pair l.from here l)
 
--- In each phase what arrives at a rank from another is a merge: of the letters that the other sends to it by itself, and of
+-- In each phase, what arrives at a rank from another is a merge: of the letters that the other sends there by itself, and of
 -- those that the other's handler gives for it.
 pub record IsCompleteRun {C : Type 0} (apply : Applies C) (ranks phases : ℕ) (start : ℕ → C) (own : OwnLetters) (arrivals : Arrivals) : Type 0 where
   pub letters : (rank phase : ℕ) → rank < ranks → phase < phases → AllByRecursion (IsArrival ranks rank) (arrivals rank phase)

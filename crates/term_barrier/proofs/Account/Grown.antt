@@ -1,5 +1,5 @@
 -- A log gained entries, and no own letter was sent.
-use Rattle.std.proofs.Common.{◌≡◌, ℕ, List, [], ◌++◌, refl, sym, ap, ◌∙◌, append_assoc}
+use Rattle.std.proofs.Common.{◌≡◌, ℕ, List, ◌++◌, refl, sym, ap, ◌∙◌, append_assoc}
 use Rattle.std.proofs.lemmas.List.{append_cancel_left}
 use Rattle.std.proofs.lemmas.List.Elements.{filter-append}
 use Rattle.msg_codec.specs.declared.letter.Letter.{Letter}
@@ -21,15 +21,14 @@ given-append handler before part more =
     ap (handed_from handler.apply here handler.ranks from) (taken_append here part more)
     ∙ handed-append handler.apply here handler.ranks from (arrived here part) (arrived here more)
     ∙ ap (λ c. given_in handler before part ++ handed_from handler.apply here handler.ranks c (arrived here more))
-      (sym (fold-append handler.apply here handler.ranks handler.start (arrived here before) (arrived here part))
-      ∙ ap (fold_from handler.apply here handler.ranks handler.start) (sym (taken_append here before part)))
+    (sym (fold-append handler.apply here handler.ranks handler.start (arrived here before) (arrived here part))
+    ∙ ap (fold_from handler.apply here handler.ranks handler.start) (sym (taken_append here before part)))
 
 -- What was sent as a log gained entries, with what is held before and afterwards, is just what the handler gave by them.
 pub record SentGiven {C : Type 0} (handler : RankHandler C) (held held2 : List Letter) (log more : List Entry) : Type 0 where
   pub sent : (to : ℕ) → sent handler.here to (log ++ more) held2 ≡ sent handler.here to log held ++ of_pair handler.here to (given_in handler log more)
 
 module _ {C : Type 0} (handler : RankHandler C) (held held2 : List Letter) (before part more : List Entry) (gave : SentGiven handler held held2 (before ++ part) more) where
-
   sent_grown : (to : ℕ) → sent handler.here to (part ++ more) held2 ≡ sent handler.here to part held ++ of_pair handler.here to (given_in handler (before ++ part) more)
   sent_grown to =
       let here = handler.here in

@@ -3,10 +3,8 @@ use Rattle.std.proofs.Common.{◌≡◌, ℕ, zero, suc, ◌<◌, ◌≤◌, Lis
 use Rattle.std.proofs.lemmas.List.{drop-append-le, take-append-drop, take-append-le}
 use Rattle.msg_codec.specs.declared.letter.Letter.{Letter}
 use Rattle.world_core.specs.declared.entry.Entry.{Entry}
-use Rattle.world_core.specs.Pairs.{of_pair}
 use Rattle.term_barrier.specs.Account.{Account, IsMadeOf, RankHandler}
 use Rattle.term_barrier.specs.Cuts.{between, phase_part, phase_start}
-use Rattle.term_barrier.specs.Merge.{IsMerge}
 use Rattle.term_barrier.proofs.Account.Grown.{SentGiven, made_grown}
 use Rattle.term_barrier.proofs.Cuts.Joined.{between_grown}
 use Rattle.term_barrier.proofs.Merge.Joined.{merge_same}
@@ -46,8 +44,8 @@ account_grown handler own cut phase held held2 log more gave account = record {
       made_elsewhere handler (own phase) held2
       (sym (take-append-le begin log more le)) (sym (drop-append-le begin log more le))
       (made_grown handler held held2 (take begin log) (drop begin log) more
-        (subst (λ es. SentGiven handler held held2 es more) (sym (take-append-drop begin log)) gave)
-        (own phase) account.present);
+      (subst (λ es. SentGiven handler held held2 es more) (sym (take-append-drop begin log)) gave)
+      (own phase) account.present);
 }
 
 -- ---- other own letters and cuts
@@ -55,7 +53,6 @@ account_grown handler own cut phase held held2 log more gave account = record {
 -- An account speaks of the cuts before its phase alone, and of own letters up to it.
 module _ {C : Type 0} (handler : RankHandler C) (own other : ℕ → ℕ → List Letter) (cut other_cut : ℕ → ℕ) (phase : ℕ) (held : List Letter) (log : List Entry)
     (cuts : (k : ℕ) → k < phase → other_cut k ≡ cut k) (owns : (k to : ℕ) → k ≤ phase → other k to ≡ own k to) where
-
   same_start : (k : ℕ) → k ≤ phase → phase_start other_cut k ≡ phase_start cut k
   same_start zero le = refl
   same_start (suc k) le = cuts k (omega (arith, le))

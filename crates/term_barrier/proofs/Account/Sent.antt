@@ -1,5 +1,5 @@
 -- The account of a rank that has sent nothing, and of one that sent an own letter.
-use Rattle.std.proofs.Common.{◌≡◌, ◌≢◌, ℕ, ◌<◌, Bool, true, false, cond, eqb, List, [], ◌∷◌, ◌++◌, drop, length, take, refl, sym, ap, ◌∙◌, subst, append_assoc, arith}
+use Rattle.std.proofs.Common.{◌≡◌, ◌≢◌, ℕ, cond, List, [], ◌∷◌, ◌++◌, drop, take, refl, sym, ap, ◌∙◌, subst, append_assoc, arith}
 use Rattle.std.proofs.lemmas.Bool.{eq-eqb, ne_eqb}
 use Rattle.msg_codec.specs.declared.letter.Letter.{Letter}
 use Rattle.world_core.specs.declared.entry.Entry.{Entry}
@@ -9,7 +9,6 @@ use Rattle.comm_rank.specs.Held.{Gains}
 use Rattle.comm_rank.specs.Rank.{HasSent, Rank, held_letters}
 use Rattle.term_barrier.specs.Account.{Account, IsMadeOf, RankHandler, handler_of, with_more}
 use Rattle.term_barrier.specs.Cuts.{phase_part, phase_start}
-use Rattle.term_barrier.specs.Merge.{IsMerge}
 use Rattle.term_barrier.specs.Merge.IsMerge.{OfNone}
 use Rattle.term_barrier.proofs.Account.Kept.{made_same}
 use Rattle.term_barrier.proofs.Merge.Joined.{merge_one_more, merge_same}

@@ -1,5 +1,5 @@
 -- A turn sends what the handler gave, and no own letters.
-use Rattle.std.proofs.Common.{◌≡◌, ℕ, List, [], ◌++◌, refl, sym, ap, ◌∙◌, subst, append_assoc}
+use Rattle.std.proofs.Common.{◌≡◌, ℕ, List, ◌++◌, sym, ap, ◌∙◌, subst, append_assoc}
 use Rattle.std.proofs.lemmas.List.{append_cancel_left}
 use Rattle.msg_codec.specs.declared.letter.Letter.{Letter}
 use Rattle.world_core.specs.declared.entry.Entry.{Entry}
@@ -13,7 +13,7 @@ use Rattle.comm_rank.specs.Turns.{Turned}
 use Rattle.comm_rank.proofs.Agrees.Arrived.{ran_all}
 use Rattle.comm_rank.proofs.Fold.Appended.{start_fold}
 use Rattle.comm_rank.proofs.Running.TookBelow.{taken_append}
-use Rattle.term_barrier.specs.Account.{Account, RankHandler, given_in, handler_of}
+use Rattle.term_barrier.specs.Account.{Account, handler_of}
 use Rattle.term_barrier.specs.CountedPlace.{IsCountedPlace}
 use Rattle.term_barrier.proofs.Account.Grown.{SentGiven}
 use Rattle.term_barrier.proofs.Account.Kept.{account_grown}
@@ -22,7 +22,6 @@ use Rattle.term_barrier.proofs.CountedPlace.Kept.{counted_grown}
 module _ {C : Type 0} (apply : Applies C) (start : C → C) (keeps : (c : C) (here ranks : ℕ) (l : Letter) → start (apply c here ranks l).0 ≡ start c)
     (old new : Rank C) (before after : List Entry) (turn : Turn)
     (agrees : Agrees apply start old before) (same : IsSameRank old new) (turned : Turned apply old new before after turn) where
-
   log_is : before ++ (turned.taken ++ turned.placed) ≡ after
   log_is = sym (turned.gained.log ∙ append_assoc before turned.taken turned.placed)
 
@@ -46,7 +45,7 @@ module _ {C : Type 0} (apply : Applies C) (start : C → C) (keeps : (c : C) (he
         ∙ ap (λ h. sent h to after (held_letters new)) (sym same.here)
         ∙ turned.advanced.sent to
         ∙ ap (λ c. sent_to old before to ++ of_pair old.here to (handed_from apply old.here old.layout.ranks c (for_rank old.here (letters_taken turned.taken))))
-          (agrees.contents ∙ ap (fold_from apply old.here old.layout.ranks (start old.contents)) ran_old)
+        (agrees.contents ∙ ap (fold_from apply old.here old.layout.ranks (start old.contents)) ran_old)
         ∙ ap (λ ls. sent_to old before to ++ of_pair old.here to (handed_from apply old.here old.layout.ranks (fold_from apply old.here old.layout.ranks (start old.contents) (arrived old.here before)) ls)) (sym run_is);
   }
 

@@ -1,5 +1,5 @@
 -- A counted place is kept as the log gains entries and no own letter is sent. It ends a phase.
-use Rattle.std.proofs.Common.{◌≡◌, ℕ, suc, ◌<◌, ◌≤◌, List, [], ◌++◌, drop, length, take, refl, sym, ap, ◌∙◌, subst, arith, inl, inr, ⊎_elim, length-append}
+use Rattle.std.proofs.Common.{◌≡◌, ℕ, suc, ◌<◌, ◌≤◌, List, [], ◌++◌, drop, length, take, refl, sym, ap, ◌∙◌, subst, arith, ⊎_elim, length-append}
 use Rattle.std.proofs.lemmas.Bool.{cases_eq}
 use Rattle.std.proofs.lemmas.List.{drop-append-le, take-append-drop, take-append-le}
 use Rattle.msg_codec.specs.declared.letter.Letter.{Letter}
@@ -29,8 +29,8 @@ counted_grown handler own begin place held held2 log more gave counted =
       since = λ to.
           ap (λ es. sent handler.here to es held2) parts
           ∙ given_alone_grown handler held held2 (take place log) (drop place log) more
-            (subst (λ es. SentGiven handler held held2 es more) (sym (take-append-drop place log)) gave)
-            to (counted.since to)
+          (subst (λ es. SentGiven handler held held2 es more) (sym (take-append-drop place log)) gave)
+          to (counted.since to)
           ∙ ap (λ es. of_pair handler.here to (given_in handler es (drop place log ++ more))) (sym first)
           ∙ ap (λ es. of_pair handler.here to (given_in handler (take place (log ++ more)) es)) (sym parts);
     }

@@ -1,5 +1,5 @@
 -- Entries of control letters, and a Count that is put with nothing held.
-use Rattle.std.proofs.Common.{◌≡◌, ℕ, ◌≤◌, Bool, false, true, ◌&&◌, List, [], ◌++◌, drop, length, take, refl, sym, ap, ◌∙◌, arith, append-nil, length-append}
+use Rattle.std.proofs.Common.{◌≡◌, ℕ, ◌≤◌, Bool, false, ◌&&◌, List, [], ◌++◌, drop, length, take, refl, sym, ap, ◌∙◌, arith, append-nil, length-append}
 use Rattle.std.specs.List.{AllByRecursion}
 use Rattle.std.proofs.Math.Seq.{drop-append_seam, take-append_seam}
 use Rattle.std.proofs.lemmas.List.{take-append-le}
@@ -10,9 +10,9 @@ use Rattle.world_core.specs.declared.entry.Entry.{Entry}
 use Rattle.world_core.specs.Log.{letters_put, letters_taken}
 use Rattle.world_core.specs.Pairs.{arrived, is_data, of_pair, pair_put, sent}
 use Rattle.comm_rank.specs.Fold.{fold_from, handed_from}
-use Rattle.term_barrier.specs.Account.{Account, IsMadeOf, RankHandler, given_in}
+use Rattle.term_barrier.specs.Account.{Account, RankHandler, given_in}
 use Rattle.term_barrier.specs.CountedPlace.{IsCountedPlace, MovesNone}
-use Rattle.term_barrier.specs.Cuts.{between, phase_start}
+use Rattle.term_barrier.specs.Cuts.{phase_start}
 use Rattle.term_barrier.proofs.Account.Grown.{SentGiven}
 use Rattle.term_barrier.proofs.Account.Kept.{account_grown, made_elsewhere, starts_within}
 use Rattle.term_barrier.proofs.CountedPlace.Kept.{counted_grown}
@@ -32,7 +32,6 @@ moves_none here entries put taken = record {
 }
 
 module _ {C : Type 0} (handler : RankHandler C) (held : List Letter) (log entries : List Entry) (moves : MovesNone handler.here entries) where
-
   none_given : (before : List Entry) → given_in handler before entries ≡ []
   none_given before = ap (handed_from handler.apply handler.here handler.ranks (fold_from handler.apply handler.here handler.ranks handler.start (arrived handler.here before))) moves.takes
 

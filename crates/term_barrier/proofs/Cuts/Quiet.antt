@@ -3,8 +3,7 @@ use Rattle.std.proofs.Common.{◌≡◌, ℕ, zero, suc, ◌<◌, ◌≤◌, Lis
 use Rattle.std.proofs.lemmas.List.{append_cancel_left}
 use Rattle.world_core.specs.declared.entry.Entry.{Entry}
 use Rattle.world_core.specs.Pairs.{pair_put, pair_taken}
-use Rattle.term_barrier.specs.Cuts.{phase_part, phase_start}
-use Rattle.term_barrier.specs.Ended.{AreQuietCuts}
+use Rattle.term_barrier.specs.Cuts.{AreQuietCuts, phase_part, phase_start}
 use Rattle.term_barrier.proofs.Cuts.Joined.{between_joined, pair_put-append, pair_taken-append}
 
 -- the places at which a phase begins are a quiet cut too, also those after the last phase
@@ -16,7 +15,6 @@ quiet_start ranks phases logs cuts quiet (suc phase) p from to f t = quiet phase
 
 module _ (ranks phases : ℕ) (logs : ℕ → List Entry) (cuts : ℕ → ℕ → ℕ) (quiet : AreQuietCuts ranks phases logs cuts)
     (order : (rank phase : ℕ) → rank < ranks → phase < phases → phase_start (cuts rank) phase ≤ cuts rank phase) where
-
   pub same_part : (phase from to : ℕ) → phase < phases → from < ranks → to < ranks →
       pair_put from to (phase_part (cuts from) phase (logs from)) ≡ pair_taken from to (phase_part (cuts to) phase (logs to))
   same_part phase from to p f t =

@@ -1,4 +1,4 @@
-use Rattle.term_barrier.proofs.Ended.Folded.{contents_folded}
+use Rattle.term_barrier.proofs.Passed.Folded.{contents_folded}
 use Rattle.term_barrier.proofs.laws.contents_are_the_fold_of_all_phases.Goals as goal
 
 pub returns : goal.returns

@@ -21,8 +21,8 @@ contents_folded apply start me log own cut phases agrees account none =
     let first = arrived me.here (take place log) in
     agrees.contents
     ∙ ap (fold_from apply me.here me.layout.ranks (start me.contents))
-      (ran_all me log agrees.nothing_waits
-      ∙ arrived_cut me.here place log
-      ∙ ap (λ ls. first ++ ls) none
-      ∙ append-nil first
-      ∙ sym (earlier_arrived me.here cut log phases account.order))
+    (ran_all me log agrees.nothing_waits
+    ∙ arrived_cut me.here place log
+    ∙ ap (λ ls. first ++ ls) none
+    ∙ append-nil first
+    ∙ sym (earlier_arrived me.here cut log phases account.order))

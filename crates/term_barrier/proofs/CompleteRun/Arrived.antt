@@ -1,6 +1,6 @@
 -- The letters that arrived at a rank.
-use Rattle.std.proofs.Common.{◌≡◌, ℕ, ◌<◌, Bool, true, false, ◌&&◌, cond, eqb, List, [], ◌∷◌, ◌++◌, drop, take, refl, subst}
-use Rattle.std.specs.List.{AllByRecursion, filter}
+use Rattle.std.proofs.Common.{◌≡◌, ℕ, ◌<◌, Bool, true, false, ◌&&◌, cond, eqb, List, [], ◌∷◌, drop, take, refl, subst}
+use Rattle.std.specs.List.{AllByRecursion}
 use Rattle.std.proofs.lemmas.Bool.{and_from, eq-eqb}
 use Rattle.list_facts.proofs.Elements.{all_first, all_second}
 use Rattle.list_facts.proofs.Tests.{and_first, and_second}
@@ -8,7 +8,6 @@ use Rattle.msg_codec.specs.declared.letter.Letter.{Letter}
 use Rattle.world_core.specs.declared.entry.Entry.{Entry}
 use Rattle.world_core.specs.Pairs.{arrived, for_rank, is_data, is_of_pair, of_pair}
 use Rattle.term_barrier.specs.CompleteRun.{IsArrival}
-use Rattle.term_barrier.specs.Cuts.{between}
 use Rattle.term_barrier.proofs.Cuts.Joined.{arrived_cut}
 
 -- those for a rank, from ranks of the world
@@ -39,9 +38,10 @@ module _ (P : Letter → Type 0) (here place : ℕ) (log : List Entry) (all : Al
 pub of_each_sender : (P : Letter → Type 0) (ranks here : ℕ) (letters : List Letter) → AllByRecursion (IsArrival ranks here) letters →
     ((from : ℕ) → from < ranks → AllByRecursion P (of_pair from here letters)) → AllByRecursion P letters
 of_each_sender P ranks here [] arrivals each = tt
-of_each_sender P ranks here (l ∷ letters) arrivals each =
-    (kept (is_of_pair l.from here l) (of_pair l.from here letters) arrivals.0.pair (each l.from arrivals.0.sender),
-    of_each_sender P ranks here letters arrivals.1 (λ from lt. others (is_of_pair from here l) (of_pair from here letters) (each from lt)))
+of_each_sender P ranks here (l ∷ letters) arrivals each = (
+  kept (is_of_pair l.from here l) (of_pair l.from here letters) arrivals.0.pair (each l.from arrivals.0.sender),
+  of_each_sender P ranks here letters arrivals.1 (λ from lt. others (is_of_pair from here l) (of_pair from here letters) (each from lt)),
+)
   where
     kept : (b : Bool) (ls : List Letter) → b ≡ true → AllByRecursion P (cond b (l ∷ ls) ls) → P l
     kept true ls h all = all.0

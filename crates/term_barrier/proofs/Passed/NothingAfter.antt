@@ -13,12 +13,11 @@ use Rattle.world_core.specs.Log.{letters_taken}
 use Rattle.world_core.specs.Pairs.{arrived, is_of_pair, of_pair, pair_put, pair_taken, sent}
 use Rattle.comm_rank.specs.Fold.{Applies, fold_from, given_by, handed_from}
 use Rattle.comm_rank.proofs.Rank.RanFrom.{pair_of_rank}
-use Rattle.term_barrier.specs.Account.{given_in}
-use Rattle.term_barrier.specs.CompleteRun.{IsArrival, OwnLetters}
-use Rattle.term_barrier.specs.Cuts.{phase_start}
-use Rattle.term_barrier.specs.Ended.{AreQuietCuts, HasEnded, LevelsRise, TookPrefixes, handler_at}
-use Rattle.term_barrier.specs.Merge.{IsMerge}
-use Rattle.term_barrier.proofs.CompleteRun.Letters.{are_arrivals, arrived_after, of_each_sender}
+use Rattle.term_barrier.specs.Account.{given_in, handler_at}
+use Rattle.term_barrier.specs.CompleteRun.{OwnLetters}
+use Rattle.term_barrier.specs.Cuts.{AreQuietCuts, phase_start}
+use Rattle.term_barrier.specs.Passed.{HasPassed, LevelsRise, TookPrefixes}
+use Rattle.term_barrier.proofs.CompleteRun.Arrived.{are_arrivals, arrived_after, of_each_sender}
 use Rattle.term_barrier.proofs.Cuts.Joined.{pair_put-append, pair_taken-append}
 use Rattle.term_barrier.proofs.Cuts.Quiet.{quiet_start}
 use Rattle.term_barrier.proofs.Merge.Joined.{merge_is_other, merge_same}
@@ -46,10 +45,9 @@ none_above level [] all = refl
 none_above level (l ∷ letters) all = absurd (let high : suc (level l) ≤ level l = (all (suc (level l))).0 in omega (arith, high))
 
 module _ {C : Type 0} (apply : Applies C) (level : Letter → ℕ) (ranks phases : ℕ) (start : ℕ → C) (own : OwnLetters) (cuts : ℕ → ℕ → ℕ) (held : ℕ → List Letter) (logs : ℕ → List Entry)
-    (ended : (rank : ℕ) → rank < ranks → HasEnded (handler_at apply ranks start rank) (own rank) (cuts rank) phases (held rank) (logs rank))
+    (passed : (rank : ℕ) → rank < ranks → HasPassed (handler_at apply ranks start rank) (own rank) (cuts rank) phases (held rank) (logs rank))
     (none_own : (rank to : ℕ) → rank < ranks → own rank phases to ≡ [])
     (quiet : AreQuietCuts ranks phases logs cuts) (took : TookPrefixes logs) (rise : LevelsRise apply level) where
-
   -- what was taken after the last cut was put after it
   put_after : (from to : ℕ) → from < ranks → to < ranks →
       IsPrefix (pair_taken from to (drop (phase_start (cuts to) phases) (logs to))) (pair_put from to (drop (phase_start (cuts from) phases) (logs from)))
@@ -68,7 +66,7 @@ module _ {C : Type 0} (apply : Applies C) (level : Letter → ℕ) (ranks phases
   sent_is_given : (from to : ℕ) → from < ranks →
       sent from to (drop (phase_start (cuts from) phases) (logs from)) (held from)
       ≡ of_pair from to (given_in (handler_at apply ranks start from) (take (phase_start (cuts from) phases) (logs from)) (drop (phase_start (cuts from) phases) (logs from)))
-  sent_is_given from to f = merge_is_other _ _ (merge_same (none_own from to f) refl refl ((ended from f).account.present to))
+  sent_is_given from to f = merge_is_other _ _ (merge_same (none_own from to f) refl refl ((passed from f).account.present to))
 
   -- by induction on the level
   all_above : (bound rank : ℕ) → rank < ranks → AllByRecursion (λ l. bound ≤ level l) (arrived rank (drop (phase_start (cuts rank) phases) (logs rank)))
@@ -77,15 +75,15 @@ module _ {C : Type 0} (apply : Applies C) (level : Letter → ℕ) (ranks phases
       let P : Letter → Type 0 = λ l. suc bound ≤ level l in
       let rest = drop (phase_start (cuts rank) phases) (logs rank) in
       of_each_sender P ranks rank (arrived rank rest)
-      (are_arrivals ranks rank (letters_taken rest) (arrived_after _ rank (phase_start (cuts rank) phases) (logs rank) (ended rank r).senders))
+      (are_arrivals ranks rank (letters_taken rest) (arrived_after _ rank (phase_start (cuts rank) phases) (logs rank) (passed rank r).senders))
       (λ from f.
-        let before = take (phase_start (cuts from) phases) (logs from) in
-        let after = drop (phase_start (cuts from) phases) (logs from) in
-        let given = given_in (handler_at apply ranks start from) before after in
-        let high : AllByRecursion P given = given_above apply level rise from ranks bound (fold_from apply from ranks (start from) (arrived from before)) (arrived from after) (all_above bound from f) in
-        let high_sent : AllByRecursion P (sent from rank after (held from)) = subst (AllByRecursion P) (sym (sent_is_given from rank f)) (sublist_all P (sublist_filter (is_of_pair from rank) given) high) in
-        subst (AllByRecursion P) (sym (pair_of_rank from rank (letters_taken rest)))
-        (all_prefix P (prefix_trans (put_after from rank f r) (prefix_append (pair_put from rank after) (of_pair from rank (held from)))) high_sent))
+      let before = take (phase_start (cuts from) phases) (logs from) in
+      let after = drop (phase_start (cuts from) phases) (logs from) in
+      let given = given_in (handler_at apply ranks start from) before after in
+      let high : AllByRecursion P given = given_above apply level rise from ranks bound (fold_from apply from ranks (start from) (arrived from before)) (arrived from after) (all_above bound from f) in
+      let high_sent : AllByRecursion P (sent from rank after (held from)) = subst (AllByRecursion P) (sym (sent_is_given from rank f)) (sublist_all P (sublist_filter (is_of_pair from rank) given) high) in
+      subst (AllByRecursion P) (sym (pair_of_rank from rank (letters_taken rest)))
+      (all_prefix P (prefix_trans (put_after from rank f r) (prefix_append (pair_put from rank after) (of_pair from rank (held from)))) high_sent))
 
   pub nothing_after : (rank : ℕ) → rank < ranks → arrived rank (drop (phase_start (cuts rank) phases) (logs rank)) ≡ []
   nothing_after rank r = none_above level (arrived rank (drop (phase_start (cuts rank) phases) (logs rank))) (λ bound. all_above bound rank r)
