@@ -1,5 +1,5 @@
--- Complete runs of the letters that ranks send by themselves: each of them arrives in its phase, and so does each letter that
--- a handler gives meanwhile, and no other.
+-- Complete runs of the letters that ranks send by themselves: each of them arrives in its phase, and so does each letter
+-- that a handler gives meanwhile, and no other.
 use Rattle.std.specs.Prelude.{ℕ, zero, suc, ◌<◌, IsTrue, List, [], ◌++◌}
 use Rattle.std.specs.List.{AllByRecursion}
 use Rattle.msg_codec.specs.declared.letter.Letter.{Letter}
@@ -30,8 +30,8 @@ pub record IsArrival (ranks here : ℕ) (l : Letter) : Type 0 where
   pub sender : l.from < ranks
   pub pair : IsTrue (is_of_pair l.from here l)
 
--- In each phase, what arrives at a rank from another is a merge: of the letters that the other sends there by itself, and of
--- those that the other's handler gives for it.
+-- In each phase, what arrives at a rank from another is a merge: of the letters that the other sends there by itself, and
+-- of those that the other's handler gives for it.
 pub record IsCompleteRun {C : Type 0} (apply : Applies C) (ranks phases : ℕ) (start : ℕ → C) (own : OwnLetters) (arrivals : Arrivals) : Type 0 where
   pub letters : (rank phase : ℕ) → rank < ranks → phase < phases → AllByRecursion (IsArrival ranks rank) (arrivals rank phase)
   pub merged : (from to phase : ℕ) → from < ranks → to < ranks → phase < phases →

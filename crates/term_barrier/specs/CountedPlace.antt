@@ -11,9 +11,9 @@ pub record MovesNone (here : ℕ) (entries : List Entry) : Type 0 where
   pub puts : (to : ℕ) → pair_put here to entries ≡ []
   pub takes : arrived here entries ≡ []
 
--- A counted place, in a phase that began at another place of the log: all own letters of the phase, merged with what the
--- handler gave, are what was put up to it; and what was sent since is just what the handler gave since. A rank keeps this of
--- each place where it put a Count, since a merge of the whole phase doesn't say how it parts there.
+-- A counted place, in a phase that began at another place of the log: all own letters of the phase, merged with what
+-- the handler gave, are what was put up to it; and what was sent since is just what the handler gave since. A rank keeps
+-- this of each place where it put a Count, since a merge of the whole phase doesn't say how it parts there.
 pub record IsCountedPlace {C : Type 0} (handler : RankHandler C) (own : ℕ → List Letter) (begin place : ℕ) (held : List Letter) (log : List Entry) : Type 0 where
   pub order : begin ≤ place
   pub within : place ≤ length log

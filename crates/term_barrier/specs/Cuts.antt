@@ -1,5 +1,5 @@
--- How logs are cut into phases. A cut is a place of a log: the number of entries before it. Each phase of a rank begins at
--- the cut that ended the phase before, and phase 0 at the beginning of the log.
+-- How logs are cut into phases. A cut is a place of a log: the number of entries before it. Each phase of a rank begins
+-- at the cut that ended the phase before, and phase 0 at the beginning of the log.
 use Rattle.std.specs.Prelude.{◌≡◌, ℕ, zero, suc, ◌<◌, List, drop, take}
 use Rattle.msg_codec.specs.declared.letter.Letter.{Letter}
 use Rattle.world_core.specs.declared.entry.Entry.{Entry}

@@ -1,9 +1,9 @@
-//! What the logs of ranks that pass barriers add up to: a complete run of the letters that ranks send by themselves. Each
-//! law is the contract of a function that does nothing. The laws speak of logs alone, whatever carries the letters, and
-//! of any handler.
+//! What the logs of ranks that pass barriers add up to: a complete run of the letters that ranks send by themselves.
+//! Each law is the contract of a function that does nothing. The laws speak of logs alone, whatever carries the letters,
+//! and of any handler.
 //!
-//! A rank has an account of its own log. It begins with one; its turns, its own letters, its Counts and the ends of its
-//! phases keep it. Once all ranks have passed their last barrier, their accounts and quiet cuts make a complete run.
+//! A rank has an account of its own log. It begins with one, and its turns, its own letters, its Counts and the ends of
+//! its phases keep it. Once all ranks have passed their last barrier, their accounts and quiet cuts make a complete run.
 ghost use Rattle.std.specs.Prelude.{◌≡◌, ◌+◌, ◌<◌, ◌≤◌, ℕ, suc, false, List, [], ◌∷◌, ◌++◌, drop, length, sum_by};
 ghost use Rattle.std.specs.List.{AllByRecursion};
 ghost use Rattle.list_facts.specs.Sublist.{IsSublist};
@@ -16,7 +16,7 @@ ghost use Rattle.comm_rank.specs.Agrees.{Agrees};
 ghost use Rattle.comm_rank.specs.Fold.{Applies, fold_from};
 ghost use Rattle.comm_rank.specs.Rank.{HasSent, IsSameRank, Rank, held_letters};
 ghost use Rattle.comm_rank.specs.Turns.{Turned};
-ghost use Rattle.term_barrier.specs.Account.{Account, RankHandler, handler_at, handler_of, with_more};
+ghost use Rattle.term_barrier.specs.Account.{Account, IsUpToDate, RankHandler, handler_at, handler_of, with_more};
 ghost use Rattle.term_barrier.specs.CompleteRun.{IsCompleteRun, OwnLetters, earlier};
 ghost use Rattle.term_barrier.specs.CountedPlace.{IsCountedPlace, MovesNone};
 ghost use Rattle.term_barrier.specs.Cuts.{AreQuietCuts, arrivals_of, phase_part, phase_start};
@@ -41,16 +41,25 @@ pub fn a_fresh_rank_has_an_account<C>()
         ((to : ℕ) → of_pair handler.here to held ≡ []) → Account handler (λ phase to. []) cut 0 held [] }
 {}
 
+/// A rank that agrees with its log is up to date with it, and is so again after each turn.
+pub fn a_rank_is_up_to_date_with_its_log<H: Handler>()
+    ensures agrees { (me : Rank H) (log : List Entry) → Agrees H.apply H.start me log →
+        IsUpToDate H.apply H.start me log }
+    ensures turned { (old new : Rank H) (before after : List Entry) (turn : Turn) →
+        IsUpToDate H.apply H.start old before → IsSameRank old new → Turned H.apply old new before after turn →
+        IsUpToDate H.apply H.start new after }
+{}
+
 /// A turn keeps the account of its rank and each counted place: it sends what the handler gave, and no own letters.
 pub fn a_turn_keeps_the_account<H: Handler>()
     ensures account { (own : ℕ → ℕ → List Letter) (cut : ℕ → ℕ) (phase : ℕ)
         (old new : Rank H) (before after : List Entry) (turn : Turn) →
-        Agrees H.apply H.start old before → IsSameRank old new → Turned H.apply old new before after turn →
+        IsUpToDate H.apply H.start old before → IsSameRank old new → Turned H.apply old new before after turn →
         Account (handler_of H.apply H.start old) own cut phase (held_letters old) before →
         Account (handler_of H.apply H.start new) own cut phase (held_letters new) after }
     ensures counted { (own : ℕ → List Letter) (begin place : ℕ)
         (old new : Rank H) (before after : List Entry) (turn : Turn) →
-        Agrees H.apply H.start old before → IsSameRank old new → Turned H.apply old new before after turn →
+        IsUpToDate H.apply H.start old before → IsSameRank old new → Turned H.apply old new before after turn →
         IsCountedPlace (handler_of H.apply H.start old) own begin place (held_letters old) before →
         IsCountedPlace (handler_of H.apply H.start new) own begin place (held_letters new) after }
 {}
@@ -127,7 +136,7 @@ pub fn nothing_arrives_after_the_last_cut<C>()
 /// Where nothing arrived at a rank after its last cut, its contents are the fold of what arrived in all phases.
 pub fn contents_are_the_fold_of_all_phases<H: Handler>()
     ensures { (me : Rank H) (log : List Entry) (own : ℕ → ℕ → List Letter) (cut : ℕ → ℕ) (phases : ℕ) →
-        Agrees H.apply H.start me log → Account (handler_of H.apply H.start me) own cut phases (held_letters me) log →
+        IsUpToDate H.apply H.start me log → Account (handler_of H.apply H.start me) own cut phases (held_letters me) log →
         arrived me.here (drop (phase_start cut phases) log) ≡ [] →
         me.contents ≡ fold_from H.apply me.here me.layout.ranks (H.start me.contents)
         (earlier (λ phase. arrived me.here (phase_part cut phase log)) phases) }

@@ -30,6 +30,7 @@ impl Handler for Silent {
 fn the_laws_can_be_cited() {
     a_merge_has_both_lists_in_order::<u64>();
     a_fresh_rank_has_an_account::<u64>();
+    a_rank_is_up_to_date_with_its_log::<Silent>();
     a_turn_keeps_the_account::<Silent>();
     an_own_letter_is_one_more_of_its_phase::<Silent>();
     control_letters_keep_the_account::<u64>();

@@ -22,68 +22,86 @@ use Rattle.term_barrier.proofs.Cuts.Joined.{pair_put-append, pair_taken-append}
 use Rattle.term_barrier.proofs.Cuts.Quiet.{quiet_start}
 use Rattle.term_barrier.proofs.Merge.Joined.{merge_is_other, merge_same}
 
--- what is left of a list and of its prefix, after the same beginning
-prefix_rest : {X : Type 0} (first : List X) {xs ys : List X} → IsPrefix (first ++ xs) (first ++ ys) → IsPrefix xs ys
-prefix_rest first {xs} {ys} p = record {
+-- of two lists that begin alike, what follows
+prefix_after : {X : Type 0} (first : List X) {xs ys : List X} → IsPrefix (first ++ xs) (first ++ ys) → IsPrefix xs ys
+prefix_after first {xs} {ys} p = record {
   rest = p.rest;
   joined = append_cancel_left first (xs ++ p.rest) ys (sym (append_assoc first xs p.rest) ∙ p.joined);
 }
 
--- what a handler gives by letters of at least this level is of a higher one
-given_above : {C : Type 0} (apply : Applies C) (level : Letter → ℕ) → LevelsRise apply level → (here ranks bound : ℕ) (c : C) (letters : List Letter) →
-    AllByRecursion (λ l. bound ≤ level l) letters → AllByRecursion (λ l. suc bound ≤ level l) (handed_from apply here ranks c letters)
-given_above apply level rise here ranks bound c [] all = tt
-given_above apply level rise here ranks bound c (l ∷ letters) all =
-    let high : bound ≤ level l = all.0 in
-    all_append (λ given. suc bound ≤ level given) (given_by apply here ranks c l) (handed_from apply here ranks (apply c here ranks l).0 letters)
-    (all_weaker (λ given. level l < level given) (λ given. suc bound ≤ level given) (given_by apply here ranks c l) (λ given lt. omega (arith, lt, high)) (rise c here ranks l))
-    (given_above apply level rise here ranks bound (apply c here ranks l).0 letters all.1)
-
--- no letter is of every level
+-- no letter has every level
 none_above : (level : Letter → ℕ) (letters : List Letter) → ((bound : ℕ) → AllByRecursion (λ l. bound ≤ level l) letters) → letters ≡ []
 none_above level [] all = refl
 none_above level (l ∷ letters) all = absurd (let high : suc (level l) ≤ level l = (all (suc (level l))).0 in omega (arith, high))
 
-module _ {C : Type 0} (apply : Applies C) (level : Letter → ℕ) (ranks phases : ℕ) (start : ℕ → C) (own : OwnLetters) (cuts : ℕ → ℕ → ℕ) (held : ℕ → List Letter) (logs : ℕ → List Entry)
+module _ {C : Type 0} (apply : Applies C) (level : Letter → ℕ) (rise : LevelsRise apply level) (here ranks bound : ℕ) where
+  abbrev Above : Letter → Type 0
+  Above l = suc bound ≤ level l
+
+  -- what the handler gives by letters of at least a level is above that level
+  given_above : (c : C) (letters : List Letter) → AllByRecursion (λ l. bound ≤ level l) letters → AllByRecursion Above (handed_from apply here ranks c letters)
+  given_above c [] all = tt
+  given_above c (l ∷ letters) all =
+      let next = (apply c here ranks l).0 in
+      let given = given_by apply here ranks c l in
+      let high : bound ≤ level l = all.0 in
+      all_append Above given (handed_from apply here ranks next letters)
+      (all_weaker (λ g. level l < level g) Above given (λ g lt. omega (arith, lt, high)) (rise c here ranks l))
+      (given_above next letters all.1)
+
+module _ {C : Type 0} (apply : Applies C) (level : Letter → ℕ) (ranks phases : ℕ) (start : ℕ → C) (own : OwnLetters)
+    (cuts : ℕ → ℕ → ℕ) (held : ℕ → List Letter) (logs : ℕ → List Entry)
     (passed : (rank : ℕ) → rank < ranks → HasPassed (handler_at apply ranks start rank) (own rank) (cuts rank) phases (held rank) (logs rank))
     (none_own : (rank to : ℕ) → rank < ranks → own rank phases to ≡ [])
     (quiet : AreQuietCuts ranks phases logs cuts) (took : TookPrefixes logs) (rise : LevelsRise apply level) where
+
+  -- the log of a rank up to its last cut, and after it
+  abbrev before : ℕ → List Entry
+  before rank = take (phase_start (cuts rank) phases) (logs rank)
+
+  abbrev after : ℕ → List Entry
+  after rank = drop (phase_start (cuts rank) phases) (logs rank)
+
+  whole : (rank : ℕ) → before rank ++ after rank ≡ logs rank
+  whole rank = take-append-drop (phase_start (cuts rank) phases) (logs rank)
+
+  -- what the handler gave after the last cut
+  abbrev given_after : ℕ → List Letter
+  given_after rank = given_in (handler_at apply ranks start rank) (before rank) (after rank)
+
   -- what was taken after the last cut was put after it
-  put_after : (from to : ℕ) → from < ranks → to < ranks →
-      IsPrefix (pair_taken from to (drop (phase_start (cuts to) phases) (logs to))) (pair_put from to (drop (phase_start (cuts from) phases) (logs from)))
+  put_after : (from to : ℕ) → from < ranks → to < ranks → IsPrefix (pair_taken from to (after to)) (pair_put from to (after from))
   put_after from to f t =
-      let a = phase_start (cuts from) phases in
-      let b = phase_start (cuts to) phases in
-      let split_taken : pair_taken from to (logs to) ≡ pair_taken from to (take b (logs to)) ++ pair_taken from to (drop b (logs to)) =
-      sym (ap (pair_taken from to) (take-append-drop b (logs to))) ∙ pair_taken-append from to (take b (logs to)) (drop b (logs to)) in
-      let split_put : pair_put from to (logs from) ≡ pair_taken from to (take b (logs to)) ++ pair_put from to (drop a (logs from)) =
-      sym (ap (pair_put from to) (take-append-drop a (logs from))) ∙ pair_put-append from to (take a (logs from)) (drop a (logs from))
-      ∙ ap (λ ls. ls ++ pair_put from to (drop a (logs from))) (quiet_start ranks phases logs cuts quiet phases (omega arith) from to f t) in
-      prefix_rest (pair_taken from to (take b (logs to)))
-      (subst (λ ls. IsPrefix ls (pair_taken from to (take b (logs to)) ++ pair_put from to (drop a (logs from)))) split_taken (subst (IsPrefix (pair_taken from to (logs to))) split_put (took from to)))
+      let first = pair_taken from to (before to) in
+      let taken : pair_taken from to (logs to) ≡ first ++ pair_taken from to (after to) =
+      sym (ap (pair_taken from to) (whole to)) ∙ pair_taken-append from to (before to) (after to) in
+      let put : pair_put from to (logs from) ≡ first ++ pair_put from to (after from) =
+      sym (ap (pair_put from to) (whole from)) ∙ pair_put-append from to (before from) (after from)
+      ∙ ap (λ ls. ls ++ pair_put from to (after from)) (quiet_start ranks phases logs cuts quiet phases (omega arith) from to f t) in
+      prefix_after first
+      (subst (λ ls. IsPrefix ls (first ++ pair_put from to (after from))) taken
+      (subst (IsPrefix (pair_taken from to (logs to))) put (took from to)))
 
   -- what was sent after the last cut is what the handler gave after it
-  sent_is_given : (from to : ℕ) → from < ranks →
-      sent from to (drop (phase_start (cuts from) phases) (logs from)) (held from)
-      ≡ of_pair from to (given_in (handler_at apply ranks start from) (take (phase_start (cuts from) phases) (logs from)) (drop (phase_start (cuts from) phases) (logs from)))
-  sent_is_given from to f = merge_is_other _ _ (merge_same (none_own from to f) refl refl ((passed from f).account.present to))
+  sent_is_given : (from to : ℕ) → from < ranks → sent from to (after from) (held from) ≡ of_pair from to (given_after from)
+  sent_is_given from to f =
+      merge_is_other (of_pair from to (given_after from)) (sent from to (after from) (held from))
+      (merge_same (none_own from to f) refl refl ((passed from f).account.present to))
 
-  -- by induction on the level
-  all_above : (bound rank : ℕ) → rank < ranks → AllByRecursion (λ l. bound ≤ level l) (arrived rank (drop (phase_start (cuts rank) phases) (logs rank)))
+  -- whatever the level, each letter that arrived after the last cut has at least that level
+  all_above : (bound rank : ℕ) → rank < ranks → AllByRecursion (λ l. bound ≤ level l) (arrived rank (after rank))
   all_above zero rank r = every _ _ (λ l. omega arith)
   all_above (suc bound) rank r =
       let P : Letter → Type 0 = λ l. suc bound ≤ level l in
-      let rest = drop (phase_start (cuts rank) phases) (logs rank) in
-      of_each_sender P ranks rank (arrived rank rest)
-      (are_arrivals ranks rank (letters_taken rest) (arrived_after _ rank (phase_start (cuts rank) phases) (logs rank) (passed rank r).senders))
+      of_each_sender P ranks rank (arrived rank (after rank))
+      (are_arrivals ranks rank (letters_taken (after rank)) (arrived_after _ rank (phase_start (cuts rank) phases) (logs rank) (passed rank r).senders))
       (λ from f.
-      let before = take (phase_start (cuts from) phases) (logs from) in
-      let after = drop (phase_start (cuts from) phases) (logs from) in
-      let given = given_in (handler_at apply ranks start from) before after in
-      let high : AllByRecursion P given = given_above apply level rise from ranks bound (fold_from apply from ranks (start from) (arrived from before)) (arrived from after) (all_above bound from f) in
-      let high_sent : AllByRecursion P (sent from rank after (held from)) = subst (AllByRecursion P) (sym (sent_is_given from rank f)) (sublist_all P (sublist_filter (is_of_pair from rank) given) high) in
-      subst (AllByRecursion P) (sym (pair_of_rank from rank (letters_taken rest)))
-      (all_prefix P (prefix_trans (put_after from rank f r) (prefix_append (pair_put from rank after) (of_pair from rank (held from)))) high_sent))
+      let given : AllByRecursion P (given_after from) =
+      given_above apply level rise from ranks bound (fold_from apply from ranks (start from) (arrived from (before from))) (arrived from (after from)) (all_above bound from f) in
+      let sends : AllByRecursion P (sent from rank (after from) (held from)) =
+      subst (AllByRecursion P) (sym (sent_is_given from rank f)) (sublist_all P (sublist_filter (is_of_pair from rank) (given_after from)) given) in
+      subst (AllByRecursion P) (sym (pair_of_rank from rank (letters_taken (after rank))))
+      (all_prefix P (prefix_trans (put_after from rank f r) (prefix_append (pair_put from rank (after from)) (of_pair from rank (held from)))) sends))
 
   pub nothing_after : (rank : ℕ) → rank < ranks → arrived rank (drop (phase_start (cuts rank) phases) (logs rank)) ≡ []
-  nothing_after rank r = none_above level (arrived rank (drop (phase_start (cuts rank) phases) (logs rank))) (λ bound. all_above bound rank r)
+  nothing_after rank r = none_above level (arrived rank (after rank)) (λ bound. all_above bound rank r)
