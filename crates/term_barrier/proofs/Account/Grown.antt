@@ -25,34 +25,39 @@ given-append handler before part more =
     ∙ ap (fold_from handler.apply here handler.ranks handler.start) (sym (taken_append here before part)))
 
 -- What was sent as a log gained entries, with what is held before and afterwards, is just what the handler gave by them.
-pub record SentGiven {C : Type 0} (handler : RankHandler C) (held held2 : List Letter) (log more : List Entry) : Type 0 where
-  pub sent : (to : ℕ) → sent handler.here to (log ++ more) held2 ≡ sent handler.here to log held ++ of_pair handler.here to (given_in handler log more)
+pub record SentGiven {C : Type 0} (handler : RankHandler C) (held held_now : List Letter) (log more : List Entry) : Type 0 where
+  pub sent : (to : ℕ) → sent handler.here to (log ++ more) held_now ≡ sent handler.here to log held ++ of_pair handler.here to (given_in handler log more)
 
-module _ {C : Type 0} (handler : RankHandler C) (held held2 : List Letter) (before part more : List Entry) (gave : SentGiven handler held held2 (before ++ part) more) where
-  sent_grown : (to : ℕ) → sent handler.here to (part ++ more) held2 ≡ sent handler.here to part held ++ of_pair handler.here to (given_in handler (before ++ part) more)
+module _ {C : Type 0} (handler : RankHandler C) (held held_now : List Letter) (before part more : List Entry)
+    (gave : SentGiven handler held held_now (before ++ part) more) where
+  -- what the handler gave for a rank, in this part of the log and by what it gained
+  abbrev given : ℕ → List Letter
+  given to = of_pair handler.here to (given_in handler before part)
+
+  abbrev given_more : ℕ → List Letter
+  given_more to = of_pair handler.here to (given_in handler (before ++ part) more)
+
+  sent_grown : (to : ℕ) → sent handler.here to (part ++ more) held_now ≡ sent handler.here to part held ++ given_more to
   sent_grown to =
       let here = handler.here in
-      append_cancel_left (pair_put here to before) _ _
-      (sym (sent-append here to before (part ++ more) held2)
-      ∙ ap (λ es. sent here to es held2) (sym (append_assoc before part more))
+      let put = pair_put here to before in
+      append_cancel_left put (sent here to (part ++ more) held_now) (sent here to part held ++ given_more to)
+      (sym (sent-append here to before (part ++ more) held_now)
+      ∙ ap (λ es. sent here to es held_now) (sym (append_assoc before part more))
       ∙ gave.sent to
-      ∙ ap (λ ls. ls ++ of_pair here to (given_in handler (before ++ part) more)) (sent-append here to before part held)
-      ∙ append_assoc (pair_put here to before) (sent here to part held) (of_pair here to (given_in handler (before ++ part) more)))
+      ∙ ap (λ ls. ls ++ given_more to) (sent-append here to before part held)
+      ∙ append_assoc put (sent here to part held) (given_more to))
 
-  given_grown : (to : ℕ) → of_pair handler.here to (given_in handler before (part ++ more))
-      ≡ of_pair handler.here to (given_in handler before part) ++ of_pair handler.here to (given_in handler (before ++ part) more)
+  given_grown : (to : ℕ) → of_pair handler.here to (given_in handler before (part ++ more)) ≡ given to ++ given_more to
   given_grown to =
       ap (of_pair handler.here to) (given-append handler before part more)
       ∙ filter-append (is_of_pair handler.here to) (given_in handler before part) (given_in handler (before ++ part) more)
 
   -- the same own letters make up what was sent
-  pub made_grown : (own : ℕ → List Letter) → IsMadeOf handler own before part held → IsMadeOf handler own before (part ++ more) held2
-  made_grown own made to =
-      merge_same refl (sym (given_grown to)) (sym (sent_grown to))
-      (merge_other_more (of_pair handler.here to (given_in handler (before ++ part) more)) (made to))
+  pub made_grown : (own : ℕ → List Letter) → IsMadeOf handler own before part held → IsMadeOf handler own before (part ++ more) held_now
+  made_grown own made to = merge_same refl (sym (given_grown to)) (sym (sent_grown to)) (merge_other_more (given_more to) (made to))
 
   -- what was sent stays just what the handler gave
   pub given_alone_grown : (to : ℕ) → sent handler.here to part held ≡ of_pair handler.here to (given_in handler before part) →
-      sent handler.here to (part ++ more) held2 ≡ of_pair handler.here to (given_in handler before (part ++ more))
-  given_alone_grown to same =
-      sent_grown to ∙ ap (λ ls. ls ++ of_pair handler.here to (given_in handler (before ++ part) more)) same ∙ sym (given_grown to)
+      sent handler.here to (part ++ more) held_now ≡ of_pair handler.here to (given_in handler before (part ++ more))
+  given_alone_grown to same = sent_grown to ∙ ap (λ ls. ls ++ given_more to) same ∙ sym (given_grown to)

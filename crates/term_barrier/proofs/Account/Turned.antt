@@ -31,7 +31,6 @@ module _ {C : Type 0} (apply : Applies C) (start : C → C)
     (keeps : (c : C) (here ranks : ℕ) (l : Letter) → start (apply c here ranks l).0 ≡ start c)
     (old new : Rank C) (before after : List Entry) (turn : Turn)
     (up : IsUpToDate apply start old before) (same : IsSameRank old new) (turned : Turned apply old new before after turn) where
-
   -- what the log gained, and what ran
   abbrev more : List Entry
   more = turned.taken ++ turned.placed

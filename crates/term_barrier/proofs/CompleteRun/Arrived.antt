@@ -11,17 +11,18 @@ use Rattle.term_barrier.specs.CompleteRun.{IsArrival}
 use Rattle.term_barrier.proofs.Cuts.Joined.{arrived_cut}
 
 -- those for a rank, from ranks of the world
-pub are_arrivals : (ranks here : ℕ) (letters : List Letter) → AllByRecursion (λ l. l.from < ranks) (for_rank here letters) → AllByRecursion (IsArrival ranks here) (for_rank here letters)
+pub are_arrivals : (ranks here : ℕ) (letters : List Letter) → AllByRecursion (λ l. l.from < ranks) (for_rank here letters) →
+    AllByRecursion (IsArrival ranks here) (for_rank here letters)
 are_arrivals ranks here [] senders = tt
 are_arrivals ranks here (l ∷ letters) senders = by_test (is_data l && eqb l.to here) refl senders (are_arrivals ranks here letters)
   where
-    Below : List Letter → Type 0
-    Below = AllByRecursion (λ l. l.from < ranks)
-
     pair : (is_data l && eqb l.to here) ≡ true → is_of_pair l.from here l ≡ true
-    pair passes = and_from _ _ (and_from _ _ (and_first (is_data l) (eqb l.to here) passes) (eq-eqb l.from l.from refl)) (and_second (is_data l) (eqb l.to here) passes)
+    pair passes =
+        and_from _ _ (and_from _ _ (and_first (is_data l) (eqb l.to here) passes) (eq-eqb l.from l.from refl))
+        (and_second (is_data l) (eqb l.to here) passes)
 
-    by_test : (b : Bool) → (is_data l && eqb l.to here) ≡ b → AllByRecursion (λ l. l.from < ranks) (cond b (l ∷ for_rank here letters) (for_rank here letters)) →
+    by_test : (b : Bool) → (is_data l && eqb l.to here) ≡ b →
+        AllByRecursion (λ l. l.from < ranks) (cond b (l ∷ for_rank here letters) (for_rank here letters)) →
         (AllByRecursion (λ l. l.from < ranks) (for_rank here letters) → AllByRecursion (IsArrival ranks here) (for_rank here letters)) →
         AllByRecursion (IsArrival ranks here) (cond b (l ∷ for_rank here letters) (for_rank here letters))
     by_test true passes all later = (record { sender = all.0; pair = pair passes }, later all.1)
@@ -29,10 +30,12 @@ are_arrivals ranks here (l ∷ letters) senders = by_test (is_data l && eqb l.to
 
 module _ (P : Letter → Type 0) (here place : ℕ) (log : List Entry) (all : AllByRecursion P (arrived here log)) where
   pub arrived_before : AllByRecursion P (arrived here (take place log))
-  arrived_before = all_first P (arrived here (take place log)) (arrived here (drop place log)) (subst (AllByRecursion P) (arrived_cut here place log) all)
+  arrived_before =
+      all_first P (arrived here (take place log)) (arrived here (drop place log)) (subst (AllByRecursion P) (arrived_cut here place log) all)
 
   pub arrived_after : AllByRecursion P (arrived here (drop place log))
-  arrived_after = all_second P (arrived here (take place log)) (arrived here (drop place log)) (subst (AllByRecursion P) (arrived_cut here place log) all)
+  arrived_after =
+      all_second P (arrived here (take place log)) (arrived here (drop place log)) (subst (AllByRecursion P) (arrived_cut here place log) all)
 
 -- what holds of the letters of each sender holds of all
 pub of_each_sender : (P : Letter → Type 0) (ranks here : ℕ) (letters : List Letter) → AllByRecursion (IsArrival ranks here) letters →

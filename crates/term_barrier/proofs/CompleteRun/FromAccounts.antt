@@ -15,7 +15,8 @@ use Rattle.term_barrier.proofs.Cuts.Arrivals.{earlier_arrived}
 use Rattle.term_barrier.proofs.Cuts.Quiet.{same_part}
 use Rattle.term_barrier.proofs.Merge.Joined.{merge_same}
 
-module _ {C : Type 0} (apply : Applies C) (ranks phases : ℕ) (start : ℕ → C) (own : OwnLetters) (cuts : ℕ → ℕ → ℕ) (held : ℕ → List Letter) (logs : ℕ → List Entry)
+module _ {C : Type 0} (apply : Applies C) (ranks phases : ℕ) (start : ℕ → C) (own : OwnLetters)
+    (cuts : ℕ → ℕ → ℕ) (held : ℕ → List Letter) (logs : ℕ → List Entry)
     (passed : (rank : ℕ) → rank < ranks → HasPassed (handler_at apply ranks start rank) (own rank) (cuts rank) phases (held rank) (logs rank))
     (quiet : AreQuietCuts ranks phases logs cuts) where
   -- what the handler gave in the part of a phase is what it gives by the letters of that phase

@@ -13,9 +13,10 @@ use Rattle.term_barrier.proofs.Account.Kept.{made_elsewhere}
 use Rattle.term_barrier.proofs.Cuts.Joined.{between_grown}
 use Rattle.term_barrier.proofs.Merge.Joined.{merge_of_other, merge_same}
 
-pub counted_grown : {C : Type 0} (handler : RankHandler C) (own : ℕ → List Letter) (begin place : ℕ) (held held2 : List Letter) (log more : List Entry) →
-    SentGiven handler held held2 log more → IsCountedPlace handler own begin place held log → IsCountedPlace handler own begin place held2 (log ++ more)
-counted_grown handler own begin place held held2 log more gave counted =
+pub counted_grown : {C : Type 0} (handler : RankHandler C) (own : ℕ → List Letter) (begin place : ℕ)
+    (held held_now : List Letter) (log more : List Entry) → SentGiven handler held held_now log more →
+    IsCountedPlace handler own begin place held log → IsCountedPlace handler own begin place held_now (log ++ more)
+counted_grown handler own begin place held held_now log more gave counted =
     let begins : begin ≤ length log = omega (arith, counted.order, counted.within) in
     let parts : drop place (log ++ more) ≡ drop place log ++ more = drop-append-le place log more counted.within in
     let first : take place (log ++ more) ≡ take place log = take-append-le place log more counted.within in
@@ -27,22 +28,24 @@ counted_grown handler own begin place held held2 log more gave counted =
           (sym (take-append-le begin log more begins)) (sym (between_grown begin place log more counted.within))
           counted.before;
       since = λ to.
-          ap (λ es. sent handler.here to es held2) parts
-          ∙ given_alone_grown handler held held2 (take place log) (drop place log) more
-          (subst (λ es. SentGiven handler held held2 es more) (sym (take-append-drop place log)) gave)
+          ap (λ es. sent handler.here to es held_now) parts
+          ∙ given_alone_grown handler held held_now (take place log) (drop place log) more
+          (subst (λ es. SentGiven handler held held_now es more) (sym (take-append-drop place log)) gave)
           to (counted.since to)
           ∙ ap (λ es. of_pair handler.here to (given_in handler es (drop place log ++ more))) (sym first)
           ∙ ap (λ es. of_pair handler.here to (given_in handler (take place (log ++ more)) es)) (sym parts);
     }
 
 -- a phase ends at a counted place, and the next begins there without own letters
-pub account_next : {C : Type 0} (handler : RankHandler C) (own : ℕ → ℕ → List Letter) (cut : ℕ → ℕ) (phase : ℕ) (held : List Letter) (log : List Entry) →
-    Account handler own cut phase held log → IsCountedPlace handler (own phase) (phase_start cut phase) (cut phase) held log →
+pub account_next : {C : Type 0} (handler : RankHandler C) (own : ℕ → ℕ → List Letter) (cut : ℕ → ℕ) (phase : ℕ)
+    (held : List Letter) (log : List Entry) → Account handler own cut phase held log →
+    IsCountedPlace handler (own phase) (phase_start cut phase) (cut phase) held log →
     ((to : ℕ) → own (suc phase) to ≡ []) → Account handler own cut (suc phase) held log
 account_next {C} handler own cut phase held log account counted none = record {
   order = λ k lt. last (λ j. phase_start cut j ≤ cut j) k lt account.order counted.order;
   within = λ k lt. last (λ j. cut j ≤ length log) k lt account.within counted.within;
-  past = λ k lt. last (λ j. IsMadeOf handler (own j) (take (phase_start cut j) log) (phase_part cut j log) []) k lt account.past counted.before;
+  past = λ k lt.
+      last (λ j. IsMadeOf handler (own j) (take (phase_start cut j) log) (phase_part cut j log) []) k lt account.past counted.before;
   present = λ to. merge_same (sym (none to)) refl (sym (counted.since to)) (merge_of_other _);
 }
   where

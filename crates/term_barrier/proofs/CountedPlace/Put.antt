@@ -27,13 +27,18 @@ fails_first a b h = rw h refl
 pub moves_none : (here : ℕ) (entries : List Entry) → AllByRecursion (λ l. is_data l ≡ false) (letters_put entries) →
     AllByRecursion (λ l. is_data l ≡ false) (letters_taken entries) → MovesNone here entries
 moves_none here entries put taken = record {
-  puts = λ to. filter_none _ (letters_put entries) (all_weaker _ _ (letters_put entries) (λ l h. fails_first (is_data l && _) _ (fails_first (is_data l) _ h)) put);
+  puts = λ to.
+      filter_none _ (letters_put entries)
+      (all_weaker _ _ (letters_put entries) (λ l h. fails_first (is_data l && _) _ (fails_first (is_data l) _ h)) put);
   takes = filter_none _ (letters_taken entries) (all_weaker _ _ (letters_taken entries) (λ l h. fails_first (is_data l) _ h) taken);
 }
 
-module _ {C : Type 0} (handler : RankHandler C) (held : List Letter) (log entries : List Entry) (moves : MovesNone handler.here entries) where
+module _ {C : Type 0} (handler : RankHandler C) (held : List Letter) (log entries : List Entry)
+    (moves : MovesNone handler.here entries) where
   none_given : (before : List Entry) → given_in handler before entries ≡ []
-  none_given before = ap (handed_from handler.apply handler.here handler.ranks (fold_from handler.apply handler.here handler.ranks handler.start (arrived handler.here before))) moves.takes
+  none_given before =
+      let from = fold_from handler.apply handler.here handler.ranks handler.start (arrived handler.here before) in
+      ap (handed_from handler.apply handler.here handler.ranks from) moves.takes
 
   gave_none : SentGiven handler held held log entries
   gave_none = record {
@@ -45,19 +50,23 @@ module _ {C : Type 0} (handler : RankHandler C) (held : List Letter) (log entrie
         ∙ ap (λ ls. sent handler.here to log held ++ of_pair handler.here to ls) (sym (none_given log));
   }
 
-  pub account_unmoved : (own : ℕ → ℕ → List Letter) (cut : ℕ → ℕ) (phase : ℕ) → Account handler own cut phase held log → Account handler own cut phase held (log ++ entries)
+  pub account_unmoved : (own : ℕ → ℕ → List Letter) (cut : ℕ → ℕ) (phase : ℕ) →
+      Account handler own cut phase held log → Account handler own cut phase held (log ++ entries)
   account_unmoved own cut phase account = account_grown handler own cut phase held held log entries gave_none account
 
-  pub counted_unmoved : (own : ℕ → List Letter) (begin place : ℕ) → IsCountedPlace handler own begin place held log → IsCountedPlace handler own begin place held (log ++ entries)
+  pub counted_unmoved : (own : ℕ → List Letter) (begin place : ℕ) →
+      IsCountedPlace handler own begin place held log → IsCountedPlace handler own begin place held (log ++ entries)
   counted_unmoved own begin place counted = counted_grown handler own begin place held held log entries gave_none counted
 
   -- a Count is put where nothing is held
   pub counted_put : (own : ℕ → ℕ → List Letter) (cut : ℕ → ℕ) (phase : ℕ) → ((to : ℕ) → of_pair handler.here to held ≡ []) →
-      Account handler own cut phase held log → IsCountedPlace handler (own phase) (phase_start cut phase) (length log) held (log ++ entries)
+      Account handler own cut phase held log →
+      IsCountedPlace handler (own phase) (phase_start cut phase) (length log) held (log ++ entries)
   counted_put own cut phase none account =
       let here = handler.here in
       let begin = phase_start cut phase in
       let begins : begin ≤ length log = starts_within handler own cut phase held log account phase (omega arith) in
+      let first = take (length log) (log ++ entries) in
       let whole : take (length log) (log ++ entries) ≡ log = take-append_seam log entries in
       let rest : drop (length log) (log ++ entries) ≡ entries = drop-append_seam log entries in
       record {
@@ -70,6 +79,6 @@ module _ {C : Type 0} (handler : RankHandler C) (held : List Letter) (log entrie
         since = λ to.
             ap (λ es. sent here to es held) rest
             ∙ ap (λ ls. ls ++ of_pair here to held) (moves.puts to) ∙ none to
-            ∙ sym (ap (of_pair here to) (none_given (take (length log) (log ++ entries))))
-            ∙ ap (λ es. of_pair here to (given_in handler (take (length log) (log ++ entries)) es)) (sym rest);
+            ∙ sym (ap (of_pair here to) (none_given first))
+            ∙ ap (λ es. of_pair here to (given_in handler first es)) (sym rest);
       }

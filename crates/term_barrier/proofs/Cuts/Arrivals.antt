@@ -8,7 +8,8 @@ use Rattle.term_barrier.specs.Cuts.{phase_part, phase_start}
 use Rattle.term_barrier.proofs.Cuts.Joined.{between_joined}
 
 -- what arrived in the phases before one arrived before its start
-pub earlier_arrived : (here : ℕ) (cut : ℕ → ℕ) (log : List Entry) (phase : ℕ) → ((k : ℕ) → k < phase → phase_start cut k ≤ cut k) →
+pub earlier_arrived : (here : ℕ) (cut : ℕ → ℕ) (log : List Entry) (phase : ℕ) →
+    ((k : ℕ) → k < phase → phase_start cut k ≤ cut k) →
     earlier (λ k. arrived here (phase_part cut k log)) phase ≡ arrived here (take (phase_start cut phase) log)
 earlier_arrived here cut log zero order = refl
 earlier_arrived here cut log (suc phase) order =

@@ -17,20 +17,25 @@ pub pair_taken-append : (s d : ℕ) (xs ys : List Entry) → pair_taken s d (xs 
 pair_taken-append s d xs ys = ap (of_pair s d) (flat_map-append letters_taken_by xs ys) ∙ filter-append (is_of_pair s d) (letters_taken xs) (letters_taken ys)
 
 -- what was sent in both parts of a log, with what is held
-pub sent-append : (from to : ℕ) (xs ys : List Entry) (held : List Letter) → sent from to (xs ++ ys) held ≡ pair_put from to xs ++ sent from to ys held
+pub sent-append : (from to : ℕ) (xs ys : List Entry) (held : List Letter) →
+    sent from to (xs ++ ys) held ≡ pair_put from to xs ++ sent from to ys held
 sent-append from to xs ys held =
-    ap (λ ls. ls ++ of_pair from to held) (pair_put-append from to xs ys) ∙ append_assoc (pair_put from to xs) (pair_put from to ys) (of_pair from to held)
+    ap (λ ls. ls ++ of_pair from to held) (pair_put-append from to xs ys)
+    ∙ append_assoc (pair_put from to xs) (pair_put from to ys) (of_pair from to held)
 
 -- ---- a log cut at a place
 
 -- the log up to a place is that up to an earlier one, and what is between them
 pub between_joined : (begin end : ℕ) (log : List Entry) → begin ≤ end → take begin log ++ between begin end log ≡ take end log
-between_joined begin end log le = ap (λ es. es ++ between begin end log) (sym (take-take begin end log le)) ∙ take-append-drop begin (take end log)
+between_joined begin end log le =
+    ap (λ es. es ++ between begin end log) (sym (take-take begin end log le)) ∙ take-append-drop begin (take end log)
 
 pub arrived_cut : (here place : ℕ) (log : List Entry) → arrived here log ≡ arrived here (take place log) ++ arrived here (drop place log)
-arrived_cut here place log = sym (ap (arrived here) (take-append-drop place log)) ∙ taken_append here (take place log) (drop place log)
+arrived_cut here place log =
+    sym (ap (arrived here) (take-append-drop place log)) ∙ taken_append here (take place log) (drop place log)
 
 -- ---- a log that gained entries
 
-pub between_grown : (begin end : ℕ) (log more : List Entry) → end ≤ length log → between begin end (log ++ more) ≡ between begin end log
+pub between_grown : (begin end : ℕ) (log more : List Entry) → end ≤ length log →
+    between begin end (log ++ more) ≡ between begin end log
 between_grown begin end log more le = ap (drop begin) (take-append-le end log more le)

@@ -17,7 +17,8 @@ other_in_order _ _ _ (FromOne x {one = one} {other = other} {merged = merged} h)
 other_in_order _ _ _ (FromOther x {one = one} {other = other} {merged = merged} h) = Keeps x (other_in_order one other merged h)
 
 -- whatever weights elements have, those of a merge add up to those of both lists
-pub merge_weight : {X : Type 0} (weight : X → ℕ) (one other merged : List X) → IsMerge one other merged → sum_by weight merged ≡ sum_by weight one + sum_by weight other
+pub merge_weight : {X : Type 0} (weight : X → ℕ) (one other merged : List X) → IsMerge one other merged →
+    sum_by weight merged ≡ sum_by weight one + sum_by weight other
 merge_weight weight _ _ _ OfNone = refl
 merge_weight weight _ _ _ (FromOne x {one = one} {other = other} {merged = merged} h) =
     omega (arith, merge_weight weight one other merged h, sum_by-cons weight x merged, sum_by-cons weight x one)

@@ -3,8 +3,8 @@ use Rattle.std.proofs.Common.{◌≡◌, List, [], ◌∷◌, ◌++◌, refl, ap
 use Rattle.term_barrier.specs.Merge.{IsMerge}
 use Rattle.term_barrier.specs.Merge.IsMerge.{OfNone, FromOne, FromOther}
 
-pub merge_append : {X : Type 0} {one other merged one2 other2 merged2 : List X} → IsMerge one other merged → IsMerge one2 other2 merged2 →
-    IsMerge (one ++ one2) (other ++ other2) (merged ++ merged2)
+pub merge_append : {X : Type 0} {one other merged more_one more_other more_merged : List X} → IsMerge one other merged →
+    IsMerge more_one more_other more_merged → IsMerge (one ++ more_one) (other ++ more_other) (merged ++ more_merged)
 merge_append OfNone k = k
 merge_append (FromOne x h) k = FromOne x (merge_append h k)
 merge_append (FromOther x h) k = FromOther x (merge_append h k)
@@ -26,18 +26,20 @@ merge_is_other _ _ (FromOther x {other = other} {merged = merged} h) = ap (λ xs
 -- ---- more elements
 
 -- more of the one list come last
-pub merge_one_more : {X : Type 0} {one other merged : List X} (more : List X) → IsMerge one other merged → IsMerge (one ++ more) other (merged ++ more)
+pub merge_one_more : {X : Type 0} {one other merged : List X} (more : List X) → IsMerge one other merged →
+    IsMerge (one ++ more) other (merged ++ more)
 merge_one_more {X} {one} {other} {merged} more h =
     subst (λ xs. IsMerge (one ++ more) xs (merged ++ more)) (append-nil other) (merge_append h (merge_of_one more))
 
 -- more of the other list come last
-pub merge_other_more : {X : Type 0} {one other merged : List X} (more : List X) → IsMerge one other merged → IsMerge one (other ++ more) (merged ++ more)
+pub merge_other_more : {X : Type 0} {one other merged : List X} (more : List X) → IsMerge one other merged →
+    IsMerge one (other ++ more) (merged ++ more)
 merge_other_more {X} {one} {other} {merged} more h =
     subst (λ xs. IsMerge xs (other ++ more) (merged ++ more)) (append-nil one) (merge_append h (merge_of_other more))
 
 -- ---- the same lists
 
-pub merge_same : {X : Type 0} {one other merged one2 other2 merged2 : List X} → one ≡ one2 → other ≡ other2 → merged ≡ merged2 →
-    IsMerge one other merged → IsMerge one2 other2 merged2
-merge_same {X} {one} {other} {merged} {one2} {other2} {merged2} a b c h =
-    subst (λ xs. IsMerge xs other2 merged2) a (subst (λ xs. IsMerge one xs merged2) b (subst (IsMerge one other) c h))
+pub merge_same : {X : Type 0} {one other merged one_now other_now merged_now : List X} →
+    one ≡ one_now → other ≡ other_now → merged ≡ merged_now → IsMerge one other merged → IsMerge one_now other_now merged_now
+merge_same {X} {one} {other} {merged} {one_now} {other_now} {merged_now} a b c h =
+    subst (λ xs. IsMerge xs other_now merged_now) a (subst (λ xs. IsMerge one xs merged_now) b (subst (IsMerge one other) c h))

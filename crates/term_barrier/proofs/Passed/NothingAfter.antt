@@ -54,7 +54,6 @@ module _ {C : Type 0} (apply : Applies C) (level : Letter → ℕ) (ranks phases
     (passed : (rank : ℕ) → rank < ranks → HasPassed (handler_at apply ranks start rank) (own rank) (cuts rank) phases (held rank) (logs rank))
     (none_own : (rank to : ℕ) → rank < ranks → own rank phases to ≡ [])
     (quiet : AreQuietCuts ranks phases logs cuts) (took : TookPrefixes logs) (rise : LevelsRise apply level) where
-
   -- the log of a rank up to its last cut, and after it
   abbrev before : ℕ → List Entry
   before rank = take (phase_start (cuts rank) phases) (logs rank)
