@@ -1,6 +1,6 @@
 -- What holds of each element of a list.
-use Rattle.std.proofs.Common.{◌≡◌, ℕ, zero, suc, ◌<◌, Bool, true, false, List, [], ◌∷◌, ◌++◌, length, take, drop, get_or, refl, sym, subst, if◌then◌else◌, arith}
-use Rattle.std.specs.List.{AllByRecursion}
+use Rattle.std.proofs.Common.{◌≡◌, ℕ, zero, suc, ◌<◌, Bool, true, false, cond, Some, List, [], ◌∷◌, ◌++◌, length, take, drop, get_or, refl, sym, ap, ◌∙◌, subst, if◌then◌else◌, arith}
+use Rattle.std.specs.List.{AllByRecursion, find}
 use Rattle.list_facts.specs.Prefix.{IsPrefix}
 
 -- what holds of every value holds of each element
@@ -11,6 +11,12 @@ every P (x ∷ xs) f = (f x, every P xs f)
 pub all_weaker : {X : Type 0} (P Q : X → Type 0) (xs : List X) → ((x : X) → P x → Q x) → AllByRecursion P xs → AllByRecursion Q xs
 all_weaker P Q [] f h = tt
 all_weaker P Q (x ∷ xs) f h = (f x h.0, all_weaker P Q xs f h.1)
+
+-- what follows from two that hold of each element
+pub both_of : {X : Type 0} (P Q R : X → Type 0) (xs : List X) → ((x : X) → P x → Q x → R x) →
+    AllByRecursion P xs → AllByRecursion Q xs → AllByRecursion R xs
+both_of P Q R [] f h k = tt
+both_of P Q R (x ∷ xs) f h k = (f x h.0 k.0, both_of P Q R xs f h.1 k.1)
 
 -- ---- of joined lists
 
@@ -51,3 +57,13 @@ all_at P (x ∷ xs) h (suc k) d within = all_at P xs h.1 k d (omega (arith, with
 pub all_if : {X : Type 0} (P : X → Type 0) (b : Bool) (xs : List X) → (b ≡ true → AllByRecursion P xs) → AllByRecursion P (if b then xs else [])
 all_if P true xs f = f refl
 all_if P false xs f = tt
+
+-- of the first element that passes a test
+pub find_found : {X : Type 0} (P : X → Type 0) (p : X → Bool) (xs : List X) (x : X) → AllByRecursion P xs →
+    find p xs ≡ Some x → P x × (p x ≡ true)
+find_found P p [] x all h = absurd cc
+find_found {X} P p (y ∷ ys) x all h = by_test (find_found P p ys x all.1) (p y) refl h
+  where
+    by_test : (find p ys ≡ Some x → P x × (p x ≡ true)) → (b : Bool) → p y ≡ b → cond b (Some y) (find p ys) ≡ Some x → P x × (p x ≡ true)
+    by_test later true passes g = let same : y ≡ x = cc in (subst P same all.0, ap p (sym same) ∙ passes)
+    by_test later false fails g = later g

@@ -76,6 +76,24 @@ pub covered : {X : Type 0} (p q r : X → Bool) → ((x : X) → p x ≡ true �
 covered p q r f [] = omega arith
 covered p q r f (x ∷ xs) = shared x (filter p xs) (filter q xs) (filter r xs) (p x) (q x) (r x) (f x) (covered p q r f xs)
 
+split : {X : Type 0} (x : X) (xs ys zs : List X) (a b c : Bool) → (b ≡ true → a ≡ true) → (c ≡ true → a ≡ true) →
+    (b ≡ true → c ≡ true → ⊥) → length ys + length zs ≤ length xs →
+    length (cond b (x ∷ ys) ys) + length (cond c (x ∷ zs) zs) ≤ length (cond a (x ∷ xs) xs)
+split x xs ys zs a true true f g h le = absurd (h refl refl)
+split x xs ys zs true true false f g h le = omega (arith, le)
+split x xs ys zs true false true f g h le = omega (arith, le)
+split x xs ys zs true false false f g h le = omega (arith, le)
+split x xs ys zs false true false f g h le = absurd (false≢true (f refl))
+split x xs ys zs false false true f g h le = absurd (false≢true (g refl))
+split x xs ys zs false false false f g h le = le
+
+-- two tests of which no element passes both, where another passes wherever one of them does
+pub apart : {X : Type 0} (p q r : X → Bool) → ((x : X) → q x ≡ true → p x ≡ true) → ((x : X) → r x ≡ true → p x ≡ true) →
+    ((x : X) → q x ≡ true → r x ≡ true → ⊥) → (xs : List X) → length (filter q xs) + length (filter r xs) ≤ length (filter p xs)
+apart p q r f g h [] = omega arith
+apart p q r f g h (x ∷ xs) =
+    split x (filter p xs) (filter q xs) (filter r xs) (p x) (q x) (r x) (f x) (g x) (h x) (apart p q r f g h xs)
+
 -- ---- how many pass
 
 one_fewer : {X : Type 0} (b : Bool) (x : X) (xs : List X) (most : ℕ) → length xs ≤ most → length (cond b (x ∷ xs) xs) ≤ most + 1

@@ -1,3 +1,4 @@
+pub mod Below
 pub mod Cuts
 pub mod Distinct
 pub mod Elements

@@ -1,5 +1,6 @@
 -- Sums over a list, and over the numbers below another.
-use Rattle.std.proofs.Common.{◌≡◌, ℕ, zero, suc, ◌+◌, ◌*◌, ◌<◌, ◌≤◌, List, [], ◌∷◌, map, length, get_or, sum_by, refl, sym, ap, ◌∙◌, arith}
+use Rattle.std.proofs.Common.{◌≡◌, ℕ, zero, suc, ◌+◌, ◌*◌, ◌<◌, ◌≤◌, List, [], ◌∷◌, map, length, get_or, sum_by, inl, inr, refl, sym, ap, ◌∙◌, arith}
+use Rattle.std.proofs.lemmas.Bool.{cases_lt}
 use Rattle.std.proofs.lemmas.List.Sums.{sum_by-cons}
 use Rattle.list_facts.specs.Sums.{sum_upto}
 
@@ -30,6 +31,35 @@ sum_upto-add f g (suc n) = omega (arith, sum_upto-add f g n)
 pub sum_upto-le : (f : ℕ → ℕ) (most n : ℕ) → ((s : ℕ) → s < n → f s ≤ most) → sum_upto f n ≤ n * most
 sum_upto-le f most zero h = omega arith
 sum_upto-le f most (suc n) h = omega (arith, h n (omega arith), sum_upto-le f most n (λ s lt. h s (omega (arith, lt))))
+
+-- each term at most another
+pub sum_upto-each_le : (f g : ℕ → ℕ) (n : ℕ) → ((s : ℕ) → s < n → f s ≤ g s) → sum_upto f n ≤ sum_upto g n
+sum_upto-each_le f g zero h = omega arith
+sum_upto-each_le f g (suc n) h = omega (arith, h n (omega arith), sum_upto-each_le f g n (λ s lt. h s (omega (arith, lt))))
+
+-- terms that are at most others, and add up to the same, are the same
+pub sum_upto-equal : (f g : ℕ → ℕ) (n : ℕ) → ((s : ℕ) → s < n → f s ≤ g s) → sum_upto f n ≡ sum_upto g n →
+    (s : ℕ) → s < n → f s ≡ g s
+sum_upto-equal f g zero h same s lt = absurd (omega (arith, lt))
+sum_upto-equal f g (suc n) h same s lt =
+    let before : (r : ℕ) → r < n → f r ≤ g r = λ r less. h r (omega (arith, less)) in
+    let sums : sum_upto f n ≤ sum_upto g n = sum_upto-each_le f g n before in
+    let last : f n ≤ g n = h n (omega arith) in
+    elim (cases_lt s n) [
+      | inl less ↦ sum_upto-equal f g n before (omega (arith, same, sums, last)) s less
+      | inr past ↦
+          let here : s ≡ n = omega (arith, lt, past) in
+          let equal : f n ≡ g n = omega (arith, same, sums, last) in
+          ap f here ∙ equal ∙ ap g (sym here)
+    ]
+
+-- the order of two sums
+pub sum_upto-swap : (f : ℕ → ℕ → ℕ) (n m : ℕ) →
+    sum_upto (λ a. sum_upto (λ b. f a b) m) n ≡ sum_upto (λ b. sum_upto (λ a. f a b) n) m
+sum_upto-swap f zero m = sym (sum_upto-zero m)
+sum_upto-swap f (suc n) m =
+    ap (λ rest. sum_upto (λ b. f n b) m + rest) (sum_upto-swap f n m)
+    ∙ sym (sum_upto-add (λ b. f n b) (λ b. sum_upto (λ a. f a b) n) m)
 
 -- from the first number on
 pub sum_upto-first : (f : ℕ → ℕ) (n : ℕ) → sum_upto f (suc n) ≡ f 0 + sum_upto (λ s. f (suc s)) n

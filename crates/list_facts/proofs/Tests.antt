@@ -1,6 +1,6 @@
 -- Whether some element of a list passes a test, and tests that are joined.
 use Rattle.std.proofs.Common.{◌≡◌, ℕ, zero, suc, ◌+◌, ◌<◌, Bool, true, false, cond, ◌||◌, ◌&&◌, Option, Some, None, List, [], ◌∷◌, length, take, drop, get_or, slice_get, replicate, refl, sym, ap, ◌∙◌, arith}
-use Rattle.std.specs.List.{list_any}
+use Rattle.std.specs.List.{AllByRecursion, list_any}
 use Rattle.std.proofs.lemmas.Bool.{and_parts, or_parts, or_right}
 use Rattle.std.proofs.lemmas.List.{take_all}
 use Rattle.std.proofs.lemmas.List.Folds.{list_any-append}
@@ -26,6 +26,11 @@ any_false_at p xs k x h none = known (p x) refl
     known : (b : Bool) → p x ≡ b → p x ≡ false
     known true passes = absurd (let hit : list_any p xs ≡ true = any_hit p xs k x h passes in cc)
     known false fails = fails
+
+-- where each fails, none passes
+pub none_any : {X : Type 0} (p : X → Bool) (xs : List X) → AllByRecursion (λ x. p x ≡ false) xs → list_any p xs ≡ false
+none_any p [] h = refl
+none_any p (x ∷ xs) h = rw h.0 (none_any p xs h.1)
 
 -- ---- lists of flags
 

@@ -1,3 +1,4 @@
+pub mod Below
 pub mod Prefix
 pub mod Sublist
 pub mod Sums

@@ -1,8 +1,12 @@
 pub mod AfterPut
 pub mod EachLetter
 pub mod Honest
+pub mod Lasting
 pub mod SameLetter
 pub mod Sent
 pub mod SomeLetter
 pub mod Table
 pub mod Unbroken
+pub mod Unmixed
+pub mod TwoKinds
+pub mod ControlTable

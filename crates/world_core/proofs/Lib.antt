@@ -1,3 +1,4 @@
+pub mod Counts
 pub mod Deeds
 pub mod Desks
 pub mod Kept
@@ -8,5 +9,7 @@ pub mod Pairs
 pub mod Plain
 pub mod Posts
 pub mod Replays
+pub mod Rounds
 pub mod Sound
+pub mod Wave
 pub mod Worlds

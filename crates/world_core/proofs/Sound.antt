@@ -1,2 +1,4 @@
+pub mod AlongPath
 pub mod FromHonest
 pub mod OnPath
+pub mod OverLink

@@ -1,2 +1,3 @@
+pub mod EachLog
 pub mod Link
 pub mod Refusal

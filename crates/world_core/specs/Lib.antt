@@ -2,8 +2,12 @@ pub mod Limits
 pub mod Log
 pub mod Pairs
 pub mod Local
+pub mod Counts
+pub mod Rounds
+pub mod ControlRules
 pub mod Rules
 pub mod World
+pub mod Wave
 pub mod Runs
 pub mod Sound
 pub mod Modest

@@ -7,10 +7,12 @@ use Rattle.msg_codec.specs.declared.letter.Letter.{Letter}
 use Rattle.ygm_route.specs.Hop.{hop}
 use Rattle.world_core.specs.declared.entry.Entry.TheVariants.{Put}
 use Rattle.world_core.specs.declared.why.Why.{Why}
-use Rattle.world_core.specs.declared.why.Why.TheVariants.{NoSuchRank, NothingThere, EmptyBatch, BadTag, WrongHop, NotHeld, TooManySent}
+use Rattle.world_core.specs.declared.why.Why.TheVariants.{NoSuchRank, NothingThere, EmptyBatch, BadTag, MixedControl, WrongHop, NotHeld, TooManySent, SentWhileCounted, WrongControl, CountEarly, CountUnforwarded, CountWrong, TotalEarly, TotalWrong}
+use Rattle.msg_codec.specs.Control.{is_control}
+use Rattle.world_core.specs.ControlRules.{sent_while_counted, wrong_control, count_early, count_unforwarded, count_wrong, total_early, total_wrong}
 use Rattle.world_core.specs.Limits.{most_letters}
 use Rattle.world_core.specs.Local.{Local, is_rank, to_forward, having_put}
-use Rattle.world_core.specs.Pairs.{is_data, own}
+use Rattle.world_core.specs.Pairs.{is_data, own_count}
 
 -- What a rank is about to do: it puts letters to a rank, or takes from one, where the link has a batch or not.
 pub data Deed : Type 0 where
@@ -33,11 +35,14 @@ abbrev pub empty_batch : Local → Deed → Bool
 empty_batch me (Puts to letters) = length letters == 0
 empty_batch me (Takes from some) = false
 
+abbrev pub mixed_control : Local → Deed → Bool
+mixed_control me (Puts to letters) = list_any is_control letters && not (length letters == 1)
+mixed_control me (Takes from some) = false
+
 -- ---- rules on one letter that is put to a rank
 
--- letters with other tags don't exist yet
 abbrev pub bad_tag : Local → ℕ → Letter → Bool
-bad_tag me to l = not (is_data l)
+bad_tag me to l = not (is_data l) && not (is_control l)
 
 abbrev pub wrong_hop : Local → ℕ → Letter → Bool
 wrong_hop me to l = is_data l && not (to == hop me.layout me.scheme me.here l.to)
@@ -53,7 +58,7 @@ abbrev pub not_held : Local → ℕ → Letter → Bool
 not_held me to l = is_data l && not (l.from == me.here) && not (is_first_of (to_forward me l.from l.to) l)
 
 abbrev pub too_many_sent : Local → ℕ → Letter → Bool
-too_many_sent me to l = is_data l && (l.from == me.here) && not (nat_lt (length (own me.here me.log)) most_letters)
+too_many_sent me to l = is_data l && (l.from == me.here) && not (nat_lt (own_count me.here me.log) most_letters)
 
 -- some letter breaks the rule, where each is tried as if those before it had been put
 abbrev pub some_letter_after : (Local → ℕ → Letter → Bool) → List Letter → List Letter → Local → ℕ → Bool
@@ -80,9 +85,17 @@ rules =
     rule NothingThere nothing_there ∷
     rule EmptyBatch empty_batch ∷
     rule BadTag (some_letter bad_tag) ∷
+    rule MixedControl mixed_control ∷
     rule WrongHop (some_letter wrong_hop) ∷
     rule NotHeld (some_letter not_held) ∷
     rule TooManySent (some_letter too_many_sent) ∷
+    rule SentWhileCounted (some_letter sent_while_counted) ∷
+    rule WrongControl (some_letter wrong_control) ∷
+    rule CountEarly (some_letter count_early) ∷
+    rule CountUnforwarded (some_letter count_unforwarded) ∷
+    rule CountWrong (some_letter count_wrong) ∷
+    rule TotalEarly (some_letter total_early) ∷
+    rule TotalWrong (some_letter total_wrong) ∷
     []
 
 -- the first of the rules that the deed breaks

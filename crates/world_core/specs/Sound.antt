@@ -10,6 +10,7 @@ use Rattle.world_core.specs.Local.{is_between}
 use Rattle.world_core.specs.Log.{batches_put, batches_taken, letters_of}
 use Rattle.world_core.specs.Pairs.{is_data, pair_put, pair_taken}
 use Rattle.world_core.specs.Rules.{IsHonest}
+use Rattle.world_core.specs.Wave.{AreRounds}
 use Rattle.world_core.specs.World.{Logs, log_of, local}
 
 -- what each rank took from each is a prefix of what that one put to it, batch by batch
@@ -22,7 +23,7 @@ IsOnPath layout scheme a b l = IsTrue (is_data l) → IsTrue (crosses (path layo
 
 -- The logs are honest and agree about each link. Of each pair of ranks, what arrived is a prefix of what the sender
 -- put. What each rank between them put is a prefix of what it took. The letters of the pair are put and taken on the
--- links of their path alone.
+-- links of their path alone. The rounds say what is so.
 pub record IsSound (world : Logs) : Type 0 where
   pub laid_out : IsLayout world.layout
   pub all_ranks : length world.logs ≡ world.layout.ranks
@@ -33,3 +34,4 @@ pub record IsSound (world : Logs) : Type 0 where
       IsPrefix (pair_put from to (log_of world rank)) (pair_taken from to (log_of world rank))
   pub put_on_path : (a b : ℕ) → AllByRecursion (IsOnPath world.layout world.scheme a b) (letters_of (batches_put b (log_of world a)))
   pub taken_on_path : (a b : ℕ) → AllByRecursion (IsOnPath world.layout world.scheme a b) (letters_of (batches_taken a (log_of world b)))
+  pub rounds : AreRounds world

@@ -1,6 +1,5 @@
 -- What an honest log has, whatever the other ranks do.
-use Rattle.std.proofs.Common.{◌≡◌, ℕ, zero, suc, ◌≤◌, ◌<◌, Bool, true, false, nat_eq, eqb-true, ne_eqb, Some, None, List, [], ◌∷◌, ◌++◌, length, take, slice_get, get_or, refl, sym, ap, ◌∙◌, subst, append-nil, inl, inr, if◌then◌else◌, arith, add-one, length-append, le_of_lt}
-use Rattle.list_facts.proofs.Places.{item_at_end, item_left}
+use Rattle.std.proofs.Common.{◌≡◌, ℕ, zero, suc, ◌≤◌, ◌<◌, Bool, true, false, nat_eq, eqb-true, ne_eqb, Some, None, List, [], ◌∷◌, ◌++◌, length, take, slice_get, get_or, refl, sym, ap, ◌∙◌, subst, append-nil, if◌then◌else◌, arith, add-one}
 use Rattle.list_facts.proofs.Elements.{all_if, all_append}
 use Rattle.list_facts.proofs.Prefix.{prefix_refl, prefix_longer}
 use Rattle.std.specs.List.{AllByRecursion}
@@ -13,27 +12,34 @@ use Rattle.world_core.specs.declared.entry.Entry.TheVariants.{Put, Took}
 use Rattle.world_core.specs.Limits.{most_letters}
 use Rattle.world_core.specs.Local.{Local, local_rank}
 use Rattle.world_core.specs.Log.{batches_put, letters_of}
-use Rattle.world_core.specs.Pairs.{of_pair, own, pair_put, pair_taken}
+use Rattle.world_core.specs.Pairs.{of_pair, own_count, pair_put, pair_taken}
 use Rattle.world_core.specs.Rules.{first_broken, IsHonest}
 use Rattle.world_core.specs.Rules.Deed.{Puts}
 use Rattle.list_facts.specs.Prefix.{IsPrefix}
+use Rattle.world_core.proofs.Counts.InOrder.{Ordered, ordered_nil, ordered_put, ordered_took}
+use Rattle.world_core.proofs.Counts.TrueCounts.{Numbered, numbered_nil, numbered_put, numbered_took}
 use Rattle.world_core.proofs.Deeds.AfterPut.{forward_batch, own_batch}
-use Rattle.world_core.proofs.Pairs.Appended.{pair_put-put, own-put, pair_taken-put, pair_put-took, pair_taken-took}
+use Rattle.world_core.proofs.Pairs.Appended.{pair_put-put, pair_taken-put, pair_put-took, pair_taken-took}
+use Rattle.world_core.proofs.Pairs.Numbers.{own_count-put, own_count-took, sent_number-nil}
+use Rattle.world_core.proofs.Deeds.Lasting.{IsLawfulPut, lawful_put}
 use Rattle.world_core.proofs.Deeds.Unbroken.{Unbroken, unbroken, sender_within, receiver_within}
 use Rattle.world_core.proofs.Deeds.Sent.{IsSent, sent}
 use Rattle.world_core.proofs.Local.Between.{IsThird}
-use Rattle.world_core.proofs.Log.Appended.{batches_put-put, batches_put-took, letters_put-took}
+use Rattle.world_core.proofs.Log.AtEntry.{entry_more}
+use Rattle.world_core.proofs.Log.Appended.{batches_put-put, batches_put-took}
 use Rattle.list_facts.proofs.Tests.{or_false_second}
-use Rattle.std.proofs.lemmas.Bool.{cases_lt}
-use Rattle.std.proofs.Math.Seq.{take-append_seam, take-length}
-use Rattle.std.proofs.lemmas.List.{take_more, take-append-le}
-use Rattle.std.proofs.lemmas.Option.{same_Some, slice_get-get_or, slice_get_within}
+use Rattle.std.proofs.Math.Seq.{take-length}
+use Rattle.std.proofs.lemmas.List.{take_more}
+use Rattle.std.proofs.lemmas.Option.{slice_get-get_or}
 
 pub record Alone (me : Local) : Type 0 where
   pub carry : (to : ℕ) → AllByRecursion (IsSent me.layout me.scheme me.here to) (letters_of (batches_put to me.log))
   pub forward : (s d : ℕ) → IsThird me.layout s d me.here → IsPrefix (pair_put s d me.log) (pair_taken s d me.log)
-  pub few : length (own me.here me.log) ≤ most_letters
+  pub few : own_count me.here me.log ≤ most_letters
   pub targets : (to : ℕ) → me.layout.ranks ≤ to → batches_put to me.log ≡ []
+  pub lawful : (to : ℕ) → AllByRecursion (IsLawfulPut me.layout me.scheme me.here to) (batches_put to me.log)
+  pub numbered : Numbered me
+  pub ordered : Ordered me
 
 abbrev pub after : Local → Entry → Local
 after me entry = record me { log = me.log ++ entry ∷ [] }
@@ -43,7 +49,15 @@ one_batch true batch = append-nil batch
 one_batch false batch = refl
 
 pub alone_nil : (layout : Shape) (scheme : Scheme) (here : ℕ) → Alone (local_rank layout scheme here [])
-alone_nil layout scheme here = record { carry = λ to. tt; forward = λ s d third. prefix_refl []; few = omega arith; targets = λ to past. refl }
+alone_nil layout scheme here = record {
+  carry = λ to. tt;
+  forward = λ s d third. prefix_refl [];
+  few = rw (sent_number-nil here) (omega arith);
+  targets = λ to past. refl;
+  lawful = λ to. tt;
+  numbered = numbered_nil (local_rank layout scheme here []) refl;
+  ordered = ordered_nil (local_rank layout scheme here []) refl;
+}
 
 pub alone_put : (me : Local) (to : ℕ) (letters : List Letter) → Alone me → Unbroken me to letters → Alone (after me (Put to letters))
 alone_put me to letters alone ok = record {
@@ -58,11 +72,17 @@ alone_put me to letters alone ok = record {
   forward = λ s d third.
       let start : IsPrefix (pair_put s d me.log ++ of_pair s d []) (pair_taken s d me.log) = rw (append-nil (pair_put s d me.log)) (alone.forward s d third) in
       rw (pair_put-put s d me.log to letters, pair_taken-put s d me.log to letters) (forward_batch me to s d [] letters third ok.held start);
-  few = rw (own-put me.here me.log to letters) (own_batch me to [] letters ok.few (rw (append-nil (own me.here me.log)) alone.few));
+  few = rw (own_count-put me.here me.log to letters) (own_batch me to [] letters ok.few (omega (arith, alone.few, sent_number-nil me.here)));
   targets = λ rank past.
       let within : to < me.layout.ranks = receiver_within me to letters ok.ranks in
       let apart : nat_eq to rank ≡ false = ne_eqb to rank (λ e. absurd (omega arith)) in
       batches_put-put me.log to rank letters ∙ rw apart (append-nil (batches_put rank me.log) ∙ alone.targets rank past);
+  lawful = λ rank.
+      let Q : ℕ → Type 0 = λ r. AllByRecursion (IsLawfulPut me.layout me.scheme me.here r) (letters ∷ []) in
+      rw (batches_put-put me.log to rank letters) (all_append _ _ _ (alone.lawful rank)
+      (all_if _ (nat_eq to rank) (letters ∷ []) (λ e. subst Q (eqb-true to rank e) (lawful_put me to letters ok, tt))));
+  numbered = numbered_put me to alone.numbered letters ok;
+  ordered = ordered_put me to alone.ordered letters ok;
 }
 
 pub alone_took : (me : Local) (from : ℕ) (letters : List Letter) → Alone me → Alone (after me (Took from letters))
@@ -70,8 +90,11 @@ alone_took me from letters alone = record {
   carry = λ rank. rw (batches_put-took me.log from rank letters) (alone.carry rank);
   forward = λ s d third. rw (pair_put-took s d me.log from letters, pair_taken-took s d me.log from letters)
       (prefix_longer (of_pair s d letters) (alone.forward s d third));
-  few = rw (letters_put-took me.log from letters) alone.few;
+  few = rw (own_count-took me.here me.log from letters) alone.few;
   targets = λ rank past. batches_put-took me.log from rank letters ∙ alone.targets rank past;
+  lawful = λ rank. rw (batches_put-took me.log from rank letters) (alone.lawful rank);
+  numbered = numbered_took me from letters alone.numbered;
+  ordered = ordered_took me from letters alone.ordered;
 }
 
 -- the first entries of an honest log
@@ -99,15 +122,6 @@ alone_honest me honest =
 pub honest_more : (me : Local) (entry : Entry) → IsHonest me →
     ((to : ℕ) (letters : List Letter) → entry ≡ Put to letters → first_broken me (Puts to letters) ≡ None) → IsHonest (after me entry)
 honest_more me entry honest ok k to letters h =
-    let P : List Entry → Type 0 = λ log. first_broken (record me { log = log }) (Puts to letters) ≡ None in
-    elim (cases_lt k (length me.log)) [
-      | inl within ↦ subst P (sym (take-append-le k me.log (entry ∷ []) (le_of_lt within)))
-          (honest k to letters (sym (item_left me.log (entry ∷ []) k within) ∙ h))
-      | inr past ↦
-          let inside : k < length (me.log ++ entry ∷ []) = slice_get_within _ k _ h in
-          let at_end : length me.log ≡ k = omega (arith, length-append me.log (entry ∷ [])) in
-          let Q : ℕ → Type 0 = λ n. slice_get (me.log ++ entry ∷ []) n ≡ Some (Put to letters) in
-          let is_entry : entry ≡ Put to letters = same_Some _ _ (sym (item_at_end me.log entry []) ∙ subst Q (sym at_end) h) in
-          let R : ℕ → Type 0 = λ n. P (take n (me.log ++ entry ∷ [])) in
-          subst R at_end (subst P (sym (take-append_seam me.log (entry ∷ []))) (ok to letters is_entry))
-    ]
+    let P : List Entry → Entry → Type 0 = λ log e. (rank : ℕ) (batch : List Letter) → e ≡ Put rank batch → first_broken (record me { log = log }) (Puts rank batch) ≡ None in
+    entry_more P me.log entry
+    (λ j e there rank batch same. honest j rank batch (there ∙ ap Some same)) ok k (Put to letters) h to letters refl

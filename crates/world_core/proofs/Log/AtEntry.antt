@@ -1,5 +1,5 @@
 -- The letters of one entry, among those of a log.
-use Rattle.std.proofs.Common.{◌≡◌, ℕ, ◌+◌, ◌≤◌, Bool, Some, List, ◌∷◌, ◌++◌, length, take, drop, slice_get, filter, flat_map, ap, ◌∙◌, arith, length-append}
+use Rattle.std.proofs.Common.{◌≡◌, ℕ, zero, suc, ◌+◌, ◌≤◌, Bool, Some, List, [], ◌∷◌, ◌++◌, length, take, drop, slice_get, filter, flat_map, ap, ◌∙◌, subst, arith, length-append}
 use Rattle.list_facts.proofs.Places.{item_right, item_still}
 use Rattle.list_facts.proofs.Steps.{split_at}
 use Rattle.std.proofs.lemmas.Grind.{flat_map-append}
@@ -29,3 +29,13 @@ module _ (p : Letter → Bool) (of : Entry → List Letter) (log : List Entry) (
   entry_at m x h =
       rw parts (item_right (filter p (flat_map of (take i log))) (filter p (of e) ++ filter p (flat_map of (drop (i + 1) log))) m
       ∙ item_still (filter p (of e)) (filter p (flat_map of (drop (i + 1) log))) m x h)
+
+-- what holds of each entry and the log before it, after one entry more
+pub entry_more : (P : List Entry → Entry → Type 0) (log : List Entry) (new : Entry) →
+    ((k : ℕ) (e : Entry) → slice_get log k ≡ Some e → P (take k log) e) → P log new →
+    (k : ℕ) (e : Entry) → slice_get (log ++ new ∷ []) k ≡ Some e → P (take k (log ++ new ∷ [])) e
+entry_more P [] new each new_too zero e at = let same : new ≡ e = cc in subst (P []) same new_too
+entry_more P [] new each new_too (suc k) e at = absurd cc
+entry_more P (first ∷ log) new each new_too zero e at = each zero e at
+entry_more P (first ∷ log) new each new_too (suc k) e at =
+    entry_more (λ before. P (first ∷ before)) log new (λ j x there. each (suc j) x there) new_too k e at

@@ -10,6 +10,10 @@ use Rattle.list_facts.proofs.Filters.{fewer}
 pub pair_of : (s d : ℕ) (l : Letter) → is_of_pair s d l ≡ true → (l.from ≡ s) × (l.to ≡ d)
 pair_of s d l h = (eqb-true _ _ (and_second _ _ (and_first _ _ h)), eqb-true _ _ (and_second _ _ h))
 
+-- which is a data letter
+pub pair_data : (s d : ℕ) (l : Letter) → is_of_pair s d l ≡ true → is_data l ≡ true
+pair_data s d l h = and_first _ _ (and_first _ _ h)
+
 pub own_pair : (l : Letter) → is_data l ≡ true → is_of_pair l.from l.to l ≡ true
 own_pair l tag =
     let from : nat_eq l.from l.from ≡ true = eq-eqb l.from l.from refl in

@@ -20,7 +20,7 @@ use Rattle.world_core.specs.Log.{batches_put, batches_taken, letters_of, letters
 use Rattle.world_core.specs.Local.{local_rank}
 use Rattle.world_core.specs.Pairs.{is_of_pair}
 use Rattle.world_core.specs.Rules.{IsHonest}
-use Rattle.world_core.specs.Sound.{LinksAgree}
+use Rattle.world_core.specs.Sound.{IsSound, LinksAgree}
 use Rattle.world_core.specs.World.{Logs, log_of, local}
 use Rattle.world_core.proofs.Deeds.Honest.{Alone, alone_nil, alone_honest}
 use Rattle.world_core.proofs.Deeds.Sent.{IsCarried, IsSent}
@@ -29,7 +29,7 @@ use Rattle.world_core.proofs.Log.ByLink.{all_taken, each_put}
 use Rattle.list_facts.proofs.Prefix.{prefix_joined, prefix_nil}
 use Rattle.list_facts.proofs.Elements.{all_prefix, all_weaker}
 use Rattle.list_facts.proofs.Filters.{filter_none, none_kept}
-use Rattle.world_core.proofs.Pairs.OfPair.{pair_of, own_pair}
+use Rattle.world_core.proofs.Pairs.OfPair.{pair_of, pair_data, own_pair}
 
 -- what all else follows from
 pub record Base (world : Logs) : Type 0 where
@@ -37,6 +37,9 @@ pub record Base (world : Logs) : Type 0 where
   pub all_ranks : length world.logs ≡ world.layout.ranks
   pub agree : LinksAgree world
   pub honest : (rank : ℕ) → rank < world.layout.ranks → IsHonest (local world rank)
+
+pub sound_base : (world : Logs) → IsSound world → Base world
+sound_base world sound = record { laid_out = sound.laid_out; all_ranks = sound.all_ranks; agree = sound.agree; honest = sound.honest }
 
 -- none of these letters is of the pair
 abbrev None_of : ℕ → ℕ → List Letter → Type 0
@@ -81,7 +84,7 @@ module _ (world : Logs) (base : Base world) where
   other_link s d k j other =
       let P : ℕ → Type 0 = λ x. j ≡ hop layout scheme k x in
       all_weaker (IsSent layout scheme k j) (λ l. is_of_pair s d l ≡ false) _
-      (λ l c. false_from_ne_true (is_of_pair s d l) (λ h. other (sym (subst P (pair_of s d l h).1 c.next)))) ((alone k).carry j)
+      (λ l c. false_from_ne_true (is_of_pair s d l) (λ h. other (sym (subst P (pair_of s d l h).1 (c.next (pair_data s d l h)))))) ((alone k).carry j)
 
   -- what is no rank puts nothing
   no_rank : (s d k j : ℕ) → layout.ranks ≤ k → None_of s d (letters_of (batches_put j (log_of world k)))
@@ -133,11 +136,11 @@ module _ (world : Logs) (base : Base world) where
       let ranks : AreRanks layout l.from l.to = record { laid_out = base.laid_out; from_within = c.from_within; to_within = c.to_within } in
       record {
         lawful = c;
-        crossed = rw c.next (elim (cases_eq l.from a) [
+        crossed = λ tag. rw (c.next tag) (elim (cases_eq l.from a) [
           | inl own ↦ rw (← own) (crosses_first_hop layout scheme l.from l.to ranks)
           | inr other ↦
-              let on = true_from_ne_false _ (λ h. absurd (let pair = own_pair l c.tag in let none = off ranks h in cc)) in
-              crosses_hop layout scheme l.from l.to a ranks on (c.leaves other)
+              let on = true_from_ne_false _ (λ h. absurd (let pair = own_pair l tag in let none = off ranks h in cc)) in
+              crosses_hop layout scheme l.from l.to a ranks on (c.leaves tag other)
         ]);
       }
 

@@ -1,0 +1,13 @@
+pub mod Balanced
+pub mod EachEvent
+pub mod Ended
+pub mod EndsBarrier
+pub mod Established
+pub mod FewBefore
+pub mod Grown
+pub mod HeldBack
+pub mod Kept
+pub mod NoData
+pub mod Told
+pub mod TrueTotals
+pub mod Unmoved
