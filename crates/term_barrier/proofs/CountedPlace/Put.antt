@@ -9,6 +9,7 @@ use Rattle.msg_codec.specs.declared.letter.Letter.{Letter}
 use Rattle.world_core.specs.declared.entry.Entry.{Entry}
 use Rattle.world_core.specs.Log.{letters_put, letters_taken}
 use Rattle.world_core.specs.Pairs.{arrived, is_data, of_pair, pair_put, sent}
+use Rattle.world_core.proofs.Pairs.Unchanged.{pair_put-append}
 use Rattle.comm_rank.specs.Fold.{fold_from, handed_from}
 use Rattle.term_barrier.specs.Account.{Account, RankHandler, given_in}
 use Rattle.term_barrier.specs.CountedPlace.{IsCountedPlace, MovesNone}
@@ -16,7 +17,6 @@ use Rattle.term_barrier.specs.Cuts.{phase_start}
 use Rattle.term_barrier.proofs.Account.Grown.{SentGiven}
 use Rattle.term_barrier.proofs.Account.Kept.{account_grown, made_elsewhere, starts_within}
 use Rattle.term_barrier.proofs.CountedPlace.Kept.{counted_grown}
-use Rattle.term_barrier.proofs.Cuts.Joined.{pair_put-append}
 use Rattle.term_barrier.proofs.Merge.Joined.{merge_same}
 
 -- ---- entries that move no letter of a rank

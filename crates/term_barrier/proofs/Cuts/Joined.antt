@@ -1,20 +1,12 @@
 -- Parts of logs joined end to end, and what they put and took.
 use Rattle.std.proofs.Common.{◌≡◌, ℕ, ◌≤◌, List, ◌++◌, drop, length, take, sym, ap, ◌∙◌, append_assoc}
-use Rattle.std.proofs.lemmas.Grind.{flat_map-append}
 use Rattle.std.proofs.lemmas.List.{take-append-drop, take-append-le, take-take}
-use Rattle.std.proofs.lemmas.List.Elements.{filter-append}
 use Rattle.msg_codec.specs.declared.letter.Letter.{Letter}
 use Rattle.world_core.specs.declared.entry.Entry.{Entry}
-use Rattle.world_core.specs.Log.{letters_put, letters_put_by, letters_taken, letters_taken_by}
-use Rattle.world_core.specs.Pairs.{arrived, is_of_pair, of_pair, pair_put, pair_taken, sent}
+use Rattle.world_core.specs.Pairs.{arrived, of_pair, pair_put, sent}
+use Rattle.world_core.proofs.Pairs.Unchanged.{pair_put-append}
 use Rattle.comm_rank.proofs.Running.TookBelow.{taken_append}
 use Rattle.term_barrier.specs.Cuts.{between}
-
-pub pair_put-append : (s d : ℕ) (xs ys : List Entry) → pair_put s d (xs ++ ys) ≡ pair_put s d xs ++ pair_put s d ys
-pair_put-append s d xs ys = ap (of_pair s d) (flat_map-append letters_put_by xs ys) ∙ filter-append (is_of_pair s d) (letters_put xs) (letters_put ys)
-
-pub pair_taken-append : (s d : ℕ) (xs ys : List Entry) → pair_taken s d (xs ++ ys) ≡ pair_taken s d xs ++ pair_taken s d ys
-pair_taken-append s d xs ys = ap (of_pair s d) (flat_map-append letters_taken_by xs ys) ∙ filter-append (is_of_pair s d) (letters_taken xs) (letters_taken ys)
 
 -- what was sent in both parts of a log, with what is held
 pub sent-append : (from to : ℕ) (xs ys : List Entry) (held : List Letter) →

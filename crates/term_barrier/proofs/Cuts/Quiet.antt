@@ -3,8 +3,9 @@ use Rattle.std.proofs.Common.{◌≡◌, ℕ, zero, suc, ◌<◌, ◌≤◌, Lis
 use Rattle.std.proofs.lemmas.List.{append_cancel_left}
 use Rattle.world_core.specs.declared.entry.Entry.{Entry}
 use Rattle.world_core.specs.Pairs.{pair_put, pair_taken}
+use Rattle.world_core.proofs.Pairs.Unchanged.{pair_put-append, pair_taken-append}
 use Rattle.term_barrier.specs.Cuts.{AreQuietCuts, phase_part, phase_start}
-use Rattle.term_barrier.proofs.Cuts.Joined.{between_joined, pair_put-append, pair_taken-append}
+use Rattle.term_barrier.proofs.Cuts.Joined.{between_joined}
 
 -- the places at which a phase begins are a quiet cut too, also those after the last phase
 pub quiet_start : (ranks phases : ℕ) (logs : ℕ → List Entry) (cuts : ℕ → ℕ → ℕ) → AreQuietCuts ranks phases logs cuts →

@@ -11,6 +11,7 @@ use Rattle.msg_codec.specs.declared.letter.Letter.{Letter}
 use Rattle.world_core.specs.declared.entry.Entry.{Entry}
 use Rattle.world_core.specs.Log.{letters_taken}
 use Rattle.world_core.specs.Pairs.{arrived, is_of_pair, of_pair, pair_put, pair_taken, sent}
+use Rattle.world_core.proofs.Pairs.Unchanged.{pair_put-append, pair_taken-append}
 use Rattle.comm_rank.specs.Fold.{Applies, fold_from, given_by, handed_from}
 use Rattle.comm_rank.proofs.Rank.RanFrom.{pair_of_rank}
 use Rattle.term_barrier.specs.Account.{given_in, handler_at}
@@ -18,16 +19,8 @@ use Rattle.term_barrier.specs.CompleteRun.{OwnLetters}
 use Rattle.term_barrier.specs.Cuts.{AreQuietCuts, phase_start}
 use Rattle.term_barrier.specs.Passed.{HasPassed, LevelsRise, TookPrefixes}
 use Rattle.term_barrier.proofs.CompleteRun.Arrived.{are_arrivals, arrived_after, of_each_sender}
-use Rattle.term_barrier.proofs.Cuts.Joined.{pair_put-append, pair_taken-append}
 use Rattle.term_barrier.proofs.Cuts.Quiet.{quiet_start}
 use Rattle.term_barrier.proofs.Merge.Joined.{merge_is_other, merge_same}
-
--- of two lists that begin alike, what follows
-prefix_after : {X : Type 0} (first : List X) {xs ys : List X} → IsPrefix (first ++ xs) (first ++ ys) → IsPrefix xs ys
-prefix_after first {xs} {ys} p = record {
-  rest = p.rest;
-  joined = append_cancel_left first (xs ++ p.rest) ys (sym (append_assoc first xs p.rest) ∙ p.joined);
-}
 
 -- no letter has every level
 none_above : (level : Letter → ℕ) (letters : List Letter) → ((bound : ℕ) → AllByRecursion (λ l. bound ≤ level l) letters) → letters ≡ []
@@ -72,14 +65,19 @@ module _ {C : Type 0} (apply : Applies C) (level : Letter → ℕ) (ranks phases
   put_after : (from to : ℕ) → from < ranks → to < ranks → IsPrefix (pair_taken from to (after to)) (pair_put from to (after from))
   put_after from to f t =
       let first = pair_taken from to (before to) in
-      let taken : pair_taken from to (logs to) ≡ first ++ pair_taken from to (after to) =
-      sym (ap (pair_taken from to) (whole to)) ∙ pair_taken-append from to (before to) (after to) in
-      let put : pair_put from to (logs from) ≡ first ++ pair_put from to (after from) =
-      sym (ap (pair_put from to) (whole from)) ∙ pair_put-append from to (before from) (after from)
-      ∙ ap (λ ls. ls ++ pair_put from to (after from)) (quiet_start ranks phases logs cuts quiet phases (omega arith) from to f t) in
-      prefix_after first
-      (subst (λ ls. IsPrefix ls (first ++ pair_put from to (after from))) taken
-      (subst (IsPrefix (pair_taken from to (logs to))) put (took from to)))
+      let taken = pair_taken from to (after to) in
+      let put = pair_put from to (after from) in
+      let rest = (took from to).rest in
+      record {
+        rest = rest;
+        joined =
+            append_cancel_left first (taken ++ rest) put
+            (sym (append_assoc first taken rest)
+            ∙ ap (λ ls. ls ++ rest) (sym (pair_taken-append from to (before to) (after to)) ∙ ap (pair_taken from to) (whole to))
+            ∙ (took from to).joined
+            ∙ sym (ap (pair_put from to) (whole from)) ∙ pair_put-append from to (before from) (after from)
+            ∙ ap (λ ls. ls ++ put) (quiet_start ranks phases logs cuts quiet phases (omega arith) from to f t));
+      }
 
   -- what was sent after the last cut is what the handler gave after it
   sent_is_given : (from to : ℕ) → from < ranks → sent from to (after from) (held from) ≡ of_pair from to (given_after from)
