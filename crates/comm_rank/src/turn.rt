@@ -9,15 +9,18 @@ ghost use Rattle.comm_rank.specs.declared.fault.CommFault.TheVariants.{Stopped};
 ghost use Rattle.comm_rank.specs.Fold.{letter_by};
 ghost use Rattle.comm_rank.specs.Held.{Gains};
 ghost use Rattle.comm_rank.specs.Rank.{Worked};
-ghost use Rattle.comm_rank.specs.Running.{HasTakenAll, HasTakenFrom, IsFor, RanFirst, RanWaiting, StuckFirst, StuckIn, TakesKeep, WasCutFrom, WorkKeeps};
+ghost use Rattle.comm_rank.specs.Running.{HasTakenAll, HasTakenFrom, IsFor, RanFirst, RanWaiting, StuckFirst, StuckIn, TakesKeep, WasCutFrom, WorkKeeps, begins_with_control};
 ghost use Rattle.comm_rank.specs.Turns.{HasEnded, HasFailed, HasHalted, KeepsPost, WasCut};
 
 use crate::comm::hold;
 use crate::held::Held;
 use crate::waiting::Waiting;
 use crate::{Comm, CommFault, Handler, Outgoing};
-use msg_codec::Counter;
+use msg_codec::{Batch, Counter};
 use world_core::Post;
+
+/// The tags of data letters are below this one.
+const DATA_TAGS: u8 = 240;
 
 /// What a turn did: how many batches it took, how many it put, and the lowest rank to which the link was full.
 /// A count at the largest value of its type stays there.
@@ -52,6 +55,13 @@ fn send_out(
         hold(sent, most, held, out.letter(here, k))?;
     }
     Ok(())
+}
+
+/// Whether a batch begins with a control letter, which is then alone in it if the batch was put by the rules.
+fn begins_with_control(batch: &Batch) -> bool
+    ensures { result ≡ begins_with_control batch.now }
+{
+    batch.count() > 0 && batch.letter_at(0).tag >= DATA_TAGS
 }
 
 impl<H: Handler> Comm<H> {
@@ -124,6 +134,9 @@ impl<H: Handler> Comm<H> {
         let Some(batch) = post.take(self.here, from) else {
             return Ok(0);
         };
+        if begins_with_control(&batch) {
+            return Ok(1);
+        }
         self.waiting = Waiting::of(batch);
         self.run_waiting()?;
         Ok(1)
