@@ -31,14 +31,14 @@ module _ {C : Type 0} (apply : Applies C) (start : C → C) (me : Rank C) (log :
             let none : of_pair from to (l ∷ []) ≡ [] = rw (not_of_pair from to me.here l mine other) refl in
             gains.pairs from to ∙ ap (λ xs. of_pair from to (held_letters me) ++ xs) none ∙ append-nil _ ∙ agrees.forwards from to other;
         sent_count = omega (
-            arith,
-            counted,
-            agrees.sent_count,
-            gains.senders me.here,
-            one,
-            sent_number-is me.here (held_letters me),
-            sent_number-is me.here (letters_of held),
-          );
+          arith,
+          counted,
+          agrees.sent_count,
+          gains.senders me.here,
+          one,
+          sent_number-is me.here (held_letters me),
+          sent_number-is me.here (letters_of held),
+        );
         run_count = agrees.run_count;
         contents = agrees.contents;
         given_is_sent = λ to.
