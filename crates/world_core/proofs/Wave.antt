@@ -1,4 +1,5 @@
 pub mod Balanced
+pub mod EachEvent
 pub mod Ended
 pub mod Established
 pub mod Grown

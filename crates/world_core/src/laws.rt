@@ -1,6 +1,7 @@
 //! What keeps a world sound. Each law is the contract of a function that does nothing, so a caller may rely on
 //! it. The laws speak of logs alone, whatever carries the letters.
 ghost use Rattle.std.specs.Prelude.{◌≡◌, ◌↔◌, ◌<◌, ◌^◌, true, ℕ, List, [], ◌∷◌, None, Some, length, slice_get};
+ghost use Rattle.std.specs.List.{AllByRecursion};
 ghost use Rattle.world_core.specs.Worked.{start, one, one_put};
 ghost use Rattle.world_core.specs.declared.entry.Event.TheVariants.{Put as PutEvent, Take};
 ghost use Rattle.world_core.specs.declared.why.Why.TheVariants.{NothingThere};
@@ -10,16 +11,17 @@ ghost use Rattle.ygm_route.specs.Layout.{IsLayout, Shape};
 ghost use Rattle.world_core.specs.declared.entry.Entry.TheVariants.{Put, Took};
 ghost use Rattle.world_core.specs.Local.{Local};
 ghost use Rattle.world_core.specs.Limits.{data_tags, most_arrived, most_batches, most_letters, most_rounds};
-ghost use Rattle.world_core.specs.Log.{batches_put, batches_taken};
+ghost use Rattle.world_core.specs.Counts.{IsTrueCount};
+ghost use Rattle.world_core.specs.Log.{batches_put, batches_taken, letters_put};
 ghost use Rattle.world_core.specs.Modest.{IsWorld};
 ghost use Rattle.world_core.specs.Rules.{first_broken, same_letter};
 ghost use Rattle.world_core.specs.Rules.Deed.{Puts};
-ghost use Rattle.world_core.specs.World.{Logs, fresh, gaining, local, log_of, refusal, after};
+ghost use Rattle.world_core.specs.Wave.{data_of};
+ghost use Rattle.world_core.specs.World.{Logs, fresh, gaining, link, local, log_of, refusal, after};
 
 use crate::Limits;
 
 /// A world in which nothing happened yet is sound.
-#[tactic(auto, using(crate::proofs::Modest::EachEvent::fresh_is_world))]
 pub fn a_fresh_world_is_sound()
     ensures { (layout : Shape) (scheme : Scheme) → IsLayout layout → IsWorld (fresh layout scheme) }
 {}
@@ -43,6 +45,19 @@ pub fn taking_the_next_batch_keeps_a_sound_world()
     ensures { (world : Logs) (from to : ℕ) (letters : List Letter) → IsWorld world →
         slice_get (batches_put to (log_of world from)) (length (batches_taken from (log_of world to))) ≡ Some letters →
         IsWorld (gaining world to (Took from letters)) }
+{}
+
+/// A Count that a rank put carries the numbers of its log before it: how many letters the rank sent, and how many ran.
+pub fn counts_carry_what_was_sent_and_run()
+    ensures { (world : Logs) (rank : ℕ) → IsWorld world →
+        AllByRecursion (IsTrueCount rank (log_of world rank)) (letters_put (log_of world rank)) }
+{}
+
+/// Each data letter that was put was taken, exactly where no link holds one.
+pub fn no_link_holds_a_data_letter()
+    ensures { (world : Logs) → IsWorld world →
+        ((from to : ℕ) → data_of (batches_taken from (log_of world to)) ≡ data_of (batches_put to (log_of world from)))
+        ↔ ((from to : ℕ) → data_of (link world from to) ≡ []) }
 {}
 
 /// The numbers that bound a run.
@@ -69,7 +84,7 @@ pub fn letters_are_the_same_where_they_are_equal()
 {}
 
 /// A worked case of the definitions: of two takes after one put, the second is refused.
-#[tactic(auto, unfolding(crate::specs::Rules::first_broken, crate::specs::Local::to_forward, crate::specs::Local::is_between, ygm_route::specs::Path::path, ygm_route::specs::Hop::hop))]
+#[tactic(auto, unfolding(crate::specs::Rules::first_broken, crate::specs::Pairs::sent_number, ygm_route::specs::Hop::hop))]
 pub fn a_second_take_is_refused()
     ensures put { refusal start (PutEvent 0 1 (one ∷ [])) ≡ None }
     ensures first { refusal one_put (Take 1 0) ≡ None }

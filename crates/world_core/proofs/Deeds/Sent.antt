@@ -36,7 +36,7 @@ leaving me to l tag ok other =
     let held : is_first_of (to_forward me l.from l.to) l ≡ true = not-false _ (and_false_second _ _ (rw (tag, apart) refl) ok) in
     (forwarding me l.from l.to l held).not_destination
 
-either_tag : (data_tag control : Bool) → (not data_tag && not control) ≡ false → (data_tag || control) ≡ true
+pub either_tag : (data_tag control : Bool) → (not data_tag && not control) ≡ false → (data_tag || control) ≡ true
 either_tag true control h = refl
 either_tag false true h = refl
 either_tag false false h = absurd cc

@@ -1,13 +1,14 @@
 -- What a rank has to forward, and its first letter.
-use Rattle.std.proofs.Common.{◌≡◌, ◌≢◌, ℕ, Bool, true, false, not, nat_eq, List, [], ◌∷◌, ◌++◌, length, drop, refl, eq-eqb, ne_eqb, if◌then◌else◌, ◌≤◌, ◌&&◌, sym, ap, ◌∙◌, subst, append_assoc, arith, length-append, zero, suc, ◌+◌, Some, slice_get}
+use Rattle.std.proofs.Common.{◌≡◌, ◌≢◌, ℕ, Bool, true, false, not, nat_eq, List, [], ◌∷◌, ◌++◌, length, drop, refl, eq-eqb, ltb-true, ne_eqb, if◌then◌else◌, ◌≤◌, ◌&&◌, sym, ap, ◌∙◌, subst, append_assoc, arith, length-append, zero, suc, ◌+◌, Some, slice_get}
 use Rattle.msg_codec.specs.declared.letter.Letter.{Letter}
 use Rattle.world_core.specs.Local.{Local, is_rank, having_put, to_forward}
 use Rattle.world_core.specs.Pairs.{pair_put, pair_taken, of_pair}
 use Rattle.world_core.specs.Rules.{is_first_of, same_letter}
 use Rattle.list_facts.proofs.Tests.{and_first, and_second}
 use Rattle.std.proofs.Math.Seq.{drop-append_seam}
+use Rattle.std.proofs.lemmas.List.{drop_all}
 use Rattle.list_facts.specs.Prefix.{IsPrefix}
-use Rattle.world_core.proofs.Local.Between.{not_equal}
+use Rattle.world_core.proofs.Local.Between.{IsThird, not_equal}
 use Rattle.world_core.proofs.Pairs.Appended.{pair_put-put, pair_taken-put}
 use Rattle.world_core.proofs.Deeds.SameLetter.{same_letter-is}
 
@@ -107,3 +108,25 @@ not_sender me s d l e =
     either : (a b c : Bool) → b ≡ true → (a && not b && c) ≡ false
     either true b c h = rw h refl
     either false b c h = refl
+
+-- a rank that may forward for a pair is neither of the two
+forwards_third : (me : Local) (s d : ℕ) → may_forward me s d ≡ true → IsThird me.layout s d me.here
+forwards_third me s d h =
+    let others : (is_rank me.layout s && is_rank me.layout d && not (nat_eq me.here s)) ≡ true = and_first _ _ h in
+    let both : (is_rank me.layout s && is_rank me.layout d) ≡ true = and_first _ _ others in
+    record {
+      from_within = ltb-true s me.layout.ranks (and_first _ _ both);
+      to_within = ltb-true d me.layout.ranks (and_second _ _ both);
+      not_sender = not_equal me.here s (and_second _ _ others);
+      not_destination = not_equal me.here d (and_second _ _ h);
+    }
+
+none_if : (b : Bool) (xs : List Letter) → (b ≡ true → xs ≡ []) → (if b then xs else []) ≡ []
+none_if true xs f = f refl
+none_if false xs f = refl
+
+-- a rank that put as many letters of a pair as it took has none to forward
+pub none_to_forward : (me : Local) (s d : ℕ) → (IsThird me.layout s d me.here → length (pair_taken s d me.log) ≤ length (pair_put s d me.log)) →
+    to_forward me s d ≡ []
+unfolding to_forward
+none_to_forward me s d few = none_if (may_forward me s d) _ (λ h. drop_all _ _ (few (forwards_third me s d h)))

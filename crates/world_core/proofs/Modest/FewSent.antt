@@ -6,24 +6,21 @@ use Rattle.std.proofs.lemmas.Bool.{cases_eq}
 use Rattle.msg_codec.specs.declared.letter.Letter.{Letter}
 use Rattle.ygm_route.specs.declared.scheme.Scheme.{Scheme}
 use Rattle.ygm_route.specs.Layout.{Shape, AreRanks}
-use Rattle.ygm_route.specs.Hop.{hop}
-use Rattle.ygm_route.specs.Path.{passes, crosses, path}
-use Rattle.ygm_route.proofs.Path.FollowsHops.{crosses_first_hop, crosses_hop}
-use Rattle.ygm_route.proofs.Path.JoinedByLinks.{link_end, link_start}
-use Rattle.ygm_route.proofs.Path.Places.{standing, is_sender, is_destination, is_between as is_middle, is_first, is_second}
+use Rattle.ygm_route.specs.Path.{passes, path}
+use Rattle.ygm_route.proofs.Path.JoinedByLinks.{link_into, link_start}
 use Rattle.world_core.specs.Limits.{most_letters}
 use Rattle.world_core.specs.Log.{letters_put}
 use Rattle.world_core.specs.Modest.{IsWorld}
 use Rattle.world_core.specs.Pairs.{is_of_pair, own_count, pair_put, pair_taken}
 use Rattle.list_facts.specs.Prefix.{IsPrefix}
 use Rattle.world_core.specs.World.{Logs, log_of}
-use Rattle.world_core.proofs.Sound.FromHonest.{link_carries}
+use Rattle.world_core.proofs.Sound.AlongPath.{taken_was_sent}
 use Rattle.world_core.proofs.Deeds.Sent.{IsCarried}
 use Rattle.world_core.proofs.Local.Between.{IsThird}
 use Rattle.world_core.proofs.Pairs.Numbers.{pair_within_sent}
 use Rattle.world_core.proofs.Pairs.OfPair.{pair_of, pair_data}
 use Rattle.list_facts.proofs.Elements.{all_weaker}
-use Rattle.list_facts.proofs.Prefix.{prefix_length, prefix_trans}
+use Rattle.list_facts.proofs.Prefix.{prefix_length}
 use Rattle.world_core.proofs.Sound.OnPath.{alone, carried_put, sound_base}
 use Rattle.world_core.proofs.Log.ByLink.{all_put}
 
@@ -33,36 +30,12 @@ record Between (layout : Shape) (scheme : Scheme) (s d r : ℕ) : Type 0 where
   pub passed : IsTrue (passes (path layout scheme s d) r)
 
 module _ (world : Logs) (w : IsWorld world) where
-  abbrev from_sender : ℕ → ℕ → ℕ → Type 0
-  from_sender s d r = IsPrefix (pair_taken s d (log_of world r)) (pair_put s d (log_of world s))
-
-  -- what a rank took of a pair over the second link and the later ones
-  goes_back : (s d a b : ℕ) → AreRanks world.layout s d → IsTrue (crosses (path world.layout world.scheme s d) a b) →
-      IsThird world.layout s d a → from_sender s d a → from_sender s d b
-  goes_back s d a b ranks link third p =
-      prefix_trans (link_carries world (sound_base world w.sound) s d a b ranks link) (prefix_trans ((alone world (sound_base world w.sound) a).forward s d third) p)
-
-  crossed : (s d a b : ℕ) → IsTrue (crosses (path world.layout world.scheme s d) a (hop world.layout world.scheme a d)) → hop world.layout world.scheme a d ≡ b →
-      IsTrue (crosses (path world.layout world.scheme s d) a b)
-  crossed s d a b h e = let P : ℕ → Type 0 = λ x. IsTrue (crosses (path world.layout world.scheme s d) a x) in subst P e h
-
   -- what a rank between took of a pair is a prefix of what the sender put of it
-  taken_between : (s d m : ℕ) → Between world.layout world.scheme s d m → from_sender s d m
-  taken_between s d m stands =
-      let ranks : AreRanks world.layout s d = record { laid_out = w.sound.laid_out; from_within = stands.third.from_within; to_within = stands.third.to_within } in
-      let start = crosses_first_hop world.layout world.scheme s d ranks in
-      elim (standing world.layout world.scheme s d ranks m stands.passed) [
-        | is_sender e ↦ absurd (stands.third.not_sender (sym e))
-        | is_destination e ↦ absurd (stands.third.not_destination (sym e))
-        | is_middle o ↦ link_carries world (sound_base world w.sound) s d s m ranks (crossed s d s m start o.first)
-        | is_first k o ↦ link_carries world (sound_base world w.sound) s d s m ranks (crossed s d s m start o.first)
-        | is_second f o ↦
-            let first = crossed s d s f start o.first in
-            let on : IsTrue (passes (path world.layout world.scheme s d) f) = link_end world.layout world.scheme s d s f ranks first in
-            goes_back s d f m ranks (crossed s d f m (crosses_hop world.layout world.scheme s d f ranks on o.m_d) o.second)
-            (record { from_within = ranks.from_within; to_within = ranks.to_within; not_sender = λ e. o.s_m (sym e); not_destination = o.m_d })
-            (link_carries world (sound_base world w.sound) s d s f ranks first)
-      ]
+  taken_between : (s d m : ℕ) → Between world.layout world.scheme s d m → IsPrefix (pair_taken s d (log_of world m)) (pair_put s d (log_of world s))
+  taken_between s d m there =
+      let ranks : AreRanks world.layout s d = record { laid_out = w.sound.laid_out; from_within = there.third.from_within; to_within = there.third.to_within } in
+      let parent = link_into world.layout world.scheme s d m ranks there.passed there.third.not_sender in
+      taken_was_sent world (sound_base world w.sound) s d ranks parent.0 m parent.1
 
   pub few_own : (rank : ℕ) → own_count rank (log_of world rank) ≤ most_letters
   few_own rank = (alone world (sound_base world w.sound) rank).few
@@ -71,8 +44,8 @@ module _ (world : Logs) (w : IsWorld world) where
   few_of_sender s d = le_trans (pair_within_sent s d (letters_put (log_of world s))) (few_own s)
 
   -- a rank that puts a letter of another rank is between its ends
-  stands : (s d r b : ℕ) → s ≢ r → (l : Letter) → IsCarried world.layout world.scheme r b l → is_of_pair s d l ≡ true → Between world.layout world.scheme s d r
-  stands s d r b other l c h =
+  is_between : (s d r b : ℕ) → s ≢ r → (l : Letter) → IsCarried world.layout world.scheme r b l → is_of_pair s d l ≡ true → Between world.layout world.scheme s d r
+  is_between s d r b other l c h =
       let ranks : AreRanks world.layout l.from l.to = record { laid_out = w.sound.laid_out; from_within = c.lawful.from_within; to_within = c.lawful.to_within } in
       let here : l.from ≢ r → Between world.layout world.scheme l.from l.to r = λ apart. record {
         third = record { from_within = ranks.from_within; to_within = ranks.to_within; not_sender = λ e. apart (sym e); not_destination = c.lawful.leaves (pair_data s d l h) apart };
@@ -89,7 +62,7 @@ module _ (world : Logs) (w : IsWorld world) where
     | inr other ↦
         let Q : Type 0 = Between world.layout world.scheme s d rank in
         let each = all_put (λ l. is_of_pair s d l ≡ true → Q) (log_of world rank)
-        (λ b. all_weaker (IsCarried world.layout world.scheme rank b) _ _ (stands s d rank b other) (carried_put world (sound_base world w.sound) rank b)) in
+        (λ b. all_weaker (IsCarried world.layout world.scheme rank b) _ _ (is_between s d rank b other) (carried_put world (sound_base world w.sound) rank b)) in
         elim (none_or (is_of_pair s d) Q (letters_put (log_of world rank)) each) [
           | inl none ↦ rw none (omega arith)
           | inr there ↦

@@ -20,6 +20,7 @@ use Rattle.world_core.specs.Rules.{Deed, rule, bad_tag, mixed_control, no_such_r
 use Rattle.world_core.specs.Rules.Deed.{Puts}
 use Rattle.world_core.specs.World.{Logs, local, log_of}
 use Rattle.world_core.proofs.Deeds.Lasting.{IsLawfulPut}
+use Rattle.world_core.proofs.Deeds.Sent.{either_tag}
 use Rattle.world_core.proofs.Deeds.SomeLetter.{letters_alike}
 use Rattle.world_core.proofs.Deeds.Unbroken.{IsIn, not_broken, rows}
 use Rattle.world_core.proofs.Log.ByLink.{each_entry}
@@ -54,11 +55,6 @@ pub record IsLawfulLetter (me : Local) (l : Letter) : Type 0 where
   pub destination : is_rank me.layout l.to ≡ true
   pub sender : is_rank me.layout l.from ≡ true
   pub tag : (is_data l || is_control l) ≡ true
-
-either_tag : (data_tag control : Bool) → (not data_tag && not control) ≡ false → (data_tag || control) ≡ true
-either_tag true control h = refl
-either_tag false true h = refl
-either_tag false false h = absurd cc
 
 each_letter : (me : Local) (letters : List Letter) → list_any (λ l. not (is_rank me.layout l.to) || not (is_rank me.layout l.from)) letters ≡ false →
     list_any (λ l. not (is_data l) && not (is_control l)) letters ≡ false → AllByRecursion (IsLawfulLetter me) letters

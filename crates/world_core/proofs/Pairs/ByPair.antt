@@ -20,7 +20,8 @@ below_last a b k n h = ltb-true k n (and_second (a && b) (nat_lt k n) h)
 abbrev from_below : ℕ → ℕ → Letter → Bool
 from_below here n l = (is_data l && nat_eq l.to here) && nat_lt l.from n
 
-from_next : (here n : ℕ) (l : Letter) → from_below here (suc n) l ≡ true → (from_below here n l ≡ true) ⊎ (is_of_pair n here l ≡ true)
+from_next : (here n : ℕ) (l : Letter) → from_below here (suc n) l ≡ true →
+    (from_below here n l ≡ true) ⊎ (is_of_pair n here l ≡ true)
 from_next here n l h =
     let both : (is_data l && nat_eq l.to here) ≡ true = and_first (is_data l && nat_eq l.to here) (nat_lt l.from (suc n)) h in
     let is : is_data l ≡ true = and_first (is_data l) (nat_eq l.to here) both in
@@ -36,19 +37,26 @@ from_next here n l h =
 none_below_zero : (here : ℕ) (l : Letter) → from_below here 0 l ≡ true → ⊥
 none_below_zero here l h = absurd (omega (arith, below_last (is_data l) (nat_eq l.to here) l.from 0 h))
 
-senders : (here n : ℕ) (xs : List Letter) → length (filter (from_below here n) xs) ≤ sum_upto (λ s. length (of_pair s here xs)) n
+senders : (here n : ℕ) (xs : List Letter) →
+    length (filter (from_below here n) xs) ≤ sum_upto (λ s. length (of_pair s here xs)) n
 senders here zero xs = none_pass (from_below here 0) (none_below_zero here) xs
 senders here (suc n) xs =
-    omega (arith, covered (from_below here (suc n)) (from_below here n) (is_of_pair n here) (from_next here n) xs, senders here n xs)
+    omega (
+      arith,
+      covered (from_below here (suc n)) (from_below here n) (is_of_pair n here) (from_next here n) xs,
+      senders here n xs,
+    )
 
 -- the letters that run at a rank, where all come from ranks
 pub by_senders : (here n : ℕ) (xs : List Letter) → AllByRecursion (λ l. is_data l ≡ true → l.from < n) xs →
     run_number here xs ≤ sum_upto (λ s. length (of_pair s here xs)) n
 unfolding run_number
 by_senders here n xs all =
-    le_trans (fewer (λ l. is_data l && nat_eq l.to here) (from_below here n) xs (all_weaker _ _ xs within all)) (senders here n xs)
+    let wider = fewer (λ l. is_data l && nat_eq l.to here) (from_below here n) xs (all_weaker _ _ xs within all) in
+    le_trans wider (senders here n xs)
   where
-    within : (l : Letter) → (is_data l ≡ true → l.from < n) → (is_data l && nat_eq l.to here) ≡ true → from_below here n l ≡ true
+    within : (l : Letter) → (is_data l ≡ true → l.from < n) → (is_data l && nat_eq l.to here) ≡ true →
+        from_below here n l ≡ true
     within l from is = rw (is, lt-ltb l.from n (from (and_first (is_data l) (nat_eq l.to here) is))) refl
 
 -- ---- by destinations
@@ -73,7 +81,8 @@ not_both from n l h k =
     let at : l.to ≡ n = eqb-true l.to n (and_second (is_data l && nat_eq l.from from) (nat_eq l.to n) k) in
     absurd (omega (arith, below, at))
 
-receivers : (from n : ℕ) (xs : List Letter) → sum_upto (λ d. length (of_pair from d xs)) n ≤ length (filter (to_below from n) xs)
+receivers : (from n : ℕ) (xs : List Letter) →
+    sum_upto (λ d. length (of_pair from d xs)) n ≤ length (filter (to_below from n) xs)
 receivers from zero xs = omega arith
 receivers from (suc n) xs =
     omega (

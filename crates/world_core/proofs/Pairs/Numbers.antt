@@ -66,11 +66,11 @@ run_number-one rank l true h = rw h refl
 run_number-one rank l false h = rw h refl
 
 -- a prefix has no more
-pub sent_of_prefix : (rank : ℕ) {xs ys : List Letter} → IsPrefix xs ys → sent_number rank xs ≤ sent_number rank ys
-sent_of_prefix rank {xs} {ys} p = omega (arith, ap (sent_number rank) p.joined, sent_number-append rank xs p.rest)
+pub sent_number_of_prefix : (rank : ℕ) {xs ys : List Letter} → IsPrefix xs ys → sent_number rank xs ≤ sent_number rank ys
+sent_number_of_prefix rank {xs} {ys} p = omega (arith, ap (sent_number rank) p.joined, sent_number-append rank xs p.rest)
 
-pub run_of_letters_prefix : (rank : ℕ) {xs ys : List Letter} → IsPrefix xs ys → run_number rank xs ≤ run_number rank ys
-run_of_letters_prefix rank {xs} {ys} p = omega (arith, ap (run_number rank) p.joined, run_number-append rank xs p.rest)
+pub run_number_of_prefix : (rank : ℕ) {xs ys : List Letter} → IsPrefix xs ys → run_number rank xs ≤ run_number rank ys
+run_number_of_prefix rank {xs} {ys} p = omega (arith, ap (run_number rank) p.joined, run_number-append rank xs p.rest)
 
 -- a rank sends no fewer letters than those to one rank
 pub pair_within_sent : (from to : ℕ) (letters : List Letter) → length (of_pair from to letters) ≤ sent_number from letters

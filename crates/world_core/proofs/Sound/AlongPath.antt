@@ -43,7 +43,12 @@ module _ (world : Logs) (base : Base world) where
     -- a rank that is neither of the two puts a prefix of what it took
     hands_on : (r : ℕ) → r ≢ s → r ≢ d → IsPrefix (gave r) (took r)
     hands_on r not_s not_d =
-        let third : IsThird layout s d r = record { from_within = ranks.from_within; to_within = ranks.to_within; not_sender = not_s; not_destination = not_d } in
+        let third : IsThird layout s d r = record {
+          from_within = ranks.from_within;
+          to_within = ranks.to_within;
+          not_sender = not_s;
+          not_destination = not_d;
+        } in
         (alone world base r).forward s d third
 
     -- ---- from the sender on
@@ -65,7 +70,8 @@ module _ (world : Logs) (base : Base world) where
         let parent = link_into layout scheme s d a ranks (link_start layout scheme s d a b ranks over) later in
         let before = parent.0 in
         let into : link before a = parent.1 in
-        let passed : IsPrefix (gave a) (gave before) = prefix_trans (hands_on a later (starts_before a b over later)) (link_carries world base s d before a ranks into) in
+        let passed : IsPrefix (gave a) (gave before) =
+        prefix_trans (hands_on a later (starts_before a b over later)) (link_carries world base s d before a ranks into) in
         elim (cases_eq before s) [
           | inl first ↦ subst (λ x. IsPrefix (gave a) (gave x)) first passed
           | inr far ↦
@@ -97,11 +103,13 @@ module _ (world : Logs) (base : Base world) where
         let on = link_end layout scheme s d a b ranks over in
         let next = hop layout scheme b d in
         let out : link b next = crosses_hop layout scheme s d b ranks on before in
-        let passed : IsPrefix (took next) (took b) = prefix_trans (link_carries world base s d b next ranks out) (hands_on b (ends_after a b over before) before) in
+        let passed : IsPrefix (took next) (took b) =
+        prefix_trans (link_carries world base s d b next ranks out) (hands_on b (ends_after a b over before) before) in
         elim (cases_eq next d) [
           | inl last ↦ subst (λ x. IsPrefix (took x) (took b)) last passed
           | inr far ↦
-              let fewer = ap length (path_goes_on layout scheme b d (towards layout s d b ranks (passes_within layout scheme s d b ranks on)) far) in
+              let b_to_d = towards layout s d b ranks (passes_within layout scheme s d b ranks on) in
+              let fewer = ap length (path_goes_on layout scheme b d b_to_d far) in
               prefix_trans (to_destination n b next out far (omega (arith, short, fewer))) passed
         ]
 
@@ -118,7 +126,8 @@ module _ (world : Logs) (base : Base world) where
 
     -- Where all that was sent arrived, all that was put over a link of the path was taken.
     pub link_is_empty : (a b : ℕ) → link a b → length (gave s) ≤ length (took d) → length (gave a) ≤ length (took b)
-    link_is_empty a b over all = omega (arith, all, prefix_length (put_was_sent a b over), prefix_length (arrived_was_taken a b over))
+    link_is_empty a b over all =
+        omega (arith, all, prefix_length (put_was_sent a b over), prefix_length (arrived_was_taken a b over))
 
     arrived_of_ranks : IsPrefix (took d) (gave s)
     arrived_of_ranks = let last = some_parent layout scheme s d ranks in taken_was_sent last.0 d last.1

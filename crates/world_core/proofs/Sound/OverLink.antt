@@ -43,15 +43,20 @@ module _ (world : Logs) (base : Base world) where
   pair_within s d a b l c h =
       let P : ℕ → Type 0 = λ x. x < layout.ranks in
       let pair = pair_of s d l h in
-      record { laid_out = base.laid_out; from_within = subst P pair.0 c.lawful.from_within; to_within = subst P pair.1 c.lawful.to_within }
+      record {
+        laid_out = base.laid_out;
+        from_within = subst P pair.0 c.lawful.from_within;
+        to_within = subst P pair.1 c.lawful.to_within;
+      }
 
   -- ---- over a link of the path
 
   module _ (s d a b : ℕ) (ranks : AreRanks layout s d) (link : IsTrue (crosses (path layout scheme s d) a b)) where
     pub put_over_link : pair_put s d (log_of world a) ≡ of_pair s d (letters_of (batches_put b (log_of world a)))
     put_over_link =
+        let next = crosses_next_hops layout scheme s d a in
         only_put (is_of_pair s d) b (λ r l. IsCarried layout scheme a r l)
-        (λ r l c h. crosses_next_hops layout scheme s d a r ranks (crossing_pair s d a r l c h) ∙ sym (crosses_next_hops layout scheme s d a b ranks link))
+        (λ r l c h. next r ranks (crossing_pair s d a r l c h) ∙ sym (next b ranks link))
         (log_of world a) (λ r. carried_put world base a r)
 
     pub taken_over_link : pair_taken s d (log_of world b) ≡ of_pair s d (letters_of (batches_taken a (log_of world b)))
@@ -68,18 +73,21 @@ module _ (world : Logs) (base : Base world) where
 
   module _ (s d r : ℕ) where
     -- where no letter of it goes to the rank, the rank takes none
-    taken_none : ((a : ℕ) (l : Letter) → IsCarried layout scheme a r l → is_of_pair s d l ≡ true → ⊥) → pair_taken s d (log_of world r) ≡ []
+    taken_none : ((a : ℕ) (l : Letter) → IsCarried layout scheme a r l → is_of_pair s d l ≡ true → ⊥) →
+        pair_taken s d (log_of world r) ≡ []
     taken_none never =
         filter_none (is_of_pair s d) (letters_taken (log_of world r)) (all_taken _ (log_of world r) (λ a.
         all_weaker _ _ _ (λ l c. false_from_ne_true (is_of_pair s d l) (never a l c)) (carried_taken world base a r)))
 
-    put_none : ((b : ℕ) (l : Letter) → IsCarried layout scheme r b l → is_of_pair s d l ≡ true → ⊥) → pair_put s d (log_of world r) ≡ []
+    put_none : ((b : ℕ) (l : Letter) → IsCarried layout scheme r b l → is_of_pair s d l ≡ true → ⊥) →
+        pair_put s d (log_of world r) ≡ []
     put_none never =
         filter_none (is_of_pair s d) (letters_put (log_of world r)) (all_put _ (log_of world r) (λ b.
         all_weaker _ _ _ (λ l c. false_from_ne_true (is_of_pair s d l) (never b l c)) (carried_put world base r b)))
 
     -- a rank that no link of the path ends at takes none
-    pub taken_off_path : ((a : ℕ) → IsTrue (crosses (path layout scheme s d) a r) → ⊥) → pair_taken s d (log_of world r) ≡ []
+    pub taken_off_path : ((a : ℕ) → IsTrue (crosses (path layout scheme s d) a r) → ⊥) →
+        pair_taken s d (log_of world r) ≡ []
     taken_off_path off = taken_none (λ a l c h. off a (crossing_pair s d a r l c h))
 
     -- there are none where not both are ranks

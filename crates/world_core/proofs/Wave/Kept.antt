@@ -51,8 +51,7 @@ module _ (world : Logs) (i : ℕ) (e : Entry) (inside : i < world.layout.ranks) 
 
   still_true : (l : Letter) → IsTrueTotal world l → IsTrueTotal new l
   still_true l total is =
-      let says = total is in
-      (
+      let says = total is in (
         complete_stays world i e inside core.all _ says.0,
         says.1 ∙ sym (sent_stays world i e inside core.all _ says.0),
         says.2 ∙ sym (run_stays world i e inside core.all _ says.0),
@@ -85,8 +84,10 @@ module _ (world : Logs) (i : ℕ) (e : Entry) (inside : i < world.layout.ranks) 
     where
       untold_before : (r : ℕ) → is_some (total_taken r q (log_of world r)) ≡ false
       untold_before = untold world core.agree core.totals q (i, inside, few)
+
       there : q < counts (log_of world i ++ e ∷ [])
       there = let P : List Entry → Type 0 = λ log. q < counts log in subst P (log_same world i e (rw core.all inside)) (complete i inside)
+
       by_entry : (x : Entry) → e ≡ x → is_some (total_taken i q (log_of world i ++ x ∷ [])) ≡ false
       by_entry (Put to batch) is = ap is_some (total_taken-put i q (log_of world i) to batch) ∙ untold_before i
       by_entry (Took from batch) is = absurd (
