@@ -13,7 +13,7 @@ use Rattle.comm_rank.specs.Rank.{Rank, local_of, held_letters, sent_to, ran_at}
 
 -- A rank agrees with a log: all that came has run, what it holds of other senders is what it has to forward, its counts
 -- are those of the letters that it sent and ran, its contents are the fold of what ran, all that its handler gave was
--- sent, and the log is modest. It put data letters alone: a rank sends no control letters.
+-- sent, and the log is modest. It put data letters alone, since a rank sends no control letters yet.
 pub record Agrees {C : Type 0} (apply : Applies C) (start : C → C) (me : Rank C) (log : List Entry) : Type 0 where
   pub nothing_waits : me.waiting ≡ []
   pub forwards : (from to : ℕ) → from ≢ me.here → of_pair from to (held_letters me) ≡ to_forward (local_of me log) from to

@@ -34,8 +34,8 @@ pub record MoveKeeps (here : ℕ) (old new : PostState) : Type 0 where
   pub halts : new.halts ≡ old.halts
   pub counts : CountsNeverFall old new
 
--- Letters moved from what a rank holds into its log, which gained honest puts alone, of data letters alone. What was sent
--- to each rank is unchanged, and so is its count.
+-- Letters moved from what a rank holds into its log, which gained honest puts of data letters alone. What was sent to each
+-- rank is unchanged, and so is its count.
 pub record Moved (here : ℕ) (before after : List (List Letter)) (old new : PostState) (placed : List Entry) : Type 0 where
   pub log : new.log here ≡ old.log here ++ placed
   pub puts : AllByRecursion IsPut placed

@@ -57,7 +57,7 @@ fn send_out(
     Ok(())
 }
 
-/// Whether a batch begins with a control letter, which is then alone in it if the batch was put by the rules.
+/// Whether a batch begins with a control letter, which is alone in it where the batch broke no rule.
 fn begins_with_control(batch: &Batch) -> bool
     ensures { result ≡ begins_with_control batch.now }
 {
@@ -66,8 +66,8 @@ fn begins_with_control(batch: &Batch) -> bool
 
 impl<H: Handler> Comm<H> {
     /// A turn. It looks whether the stop is raised. Then it takes at most one batch from each link, in the order of
-    /// ranks, and runs the letters for this rank in order. Then it puts what the rank holds, destination by
-    /// destination, until nothing remains or the link is full.
+    /// ranks, and runs the letters for this rank in order; a control letter is for no handler, and isn't run. Then it
+    /// puts what the rank holds, destination by destination, until nothing remains or the link is full.
     ///
     /// Where a rank has raised the stop, it returns `Stopped` and does nothing. Where a letter can't run or be put,
     /// for lack of memory or because the handler gave a letter too many, this rank raises the stop, and the letters
@@ -107,7 +107,8 @@ impl<H: Handler> Comm<H> {
         Ok(Turn { took, put, full })
     }
 
-    /// Takes a batch from each link that isn't empty, and runs its letters. It returns how many it took.
+    /// Takes a batch from each link that isn't empty, and runs its letters, unless it is a control letter. It returns
+    /// how many it took.
     fn take_all<P: Post>(&mut self, post: &mut P) -> Result<u32, CommFault>
         requires belongs { Belongs H.apply H.start self.old (P.state post.old) }
         ensures took { IfOk result (HasTakenAll H.apply H.start self.old self.new (P.state post.old) (P.state post.new)) }
@@ -122,7 +123,8 @@ impl<H: Handler> Comm<H> {
         Ok(took)
     }
 
-    /// Takes a batch from the link of one rank, if it isn't empty, and runs its letters. It returns how many it took.
+    /// Takes a batch from the link of one rank, if it isn't empty, and runs its letters, unless it is a control letter.
+    /// It returns how many it took.
     fn take_from<P: Post>(&mut self, post: &mut P, from: u32) -> Result<u32, CommFault>
         requires belongs { Belongs H.apply H.start self.old (P.state post.old) }
         requires sender { from < self.old.layout.ranks }
