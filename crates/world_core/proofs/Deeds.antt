@@ -8,3 +8,5 @@ pub mod SomeLetter
 pub mod Table
 pub mod Unbroken
 pub mod Unmixed
+pub mod TwoKinds
+pub mod ControlTable

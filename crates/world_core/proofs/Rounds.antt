@@ -1,1 +1,3 @@
+pub mod AtRound
 pub mod BarrierStart
+pub mod Stepwise

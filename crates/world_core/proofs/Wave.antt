@@ -1,7 +1,9 @@
 pub mod Balanced
 pub mod EachEvent
 pub mod Ended
+pub mod EndsBarrier
 pub mod Established
+pub mod FewBefore
 pub mod Grown
 pub mod HeldBack
 pub mod Kept

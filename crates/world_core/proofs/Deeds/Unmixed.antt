@@ -17,7 +17,7 @@ several true n h = absurd (
     cc)
 several false n h = h
 
-each_fails : (test : Letter → Bool) (letters : List Letter) → list_any test letters ≡ false → AllByRecursion (λ l. test l ≡ false) letters
+pub each_fails : (test : Letter → Bool) (letters : List Letter) → list_any test letters ≡ false → AllByRecursion (λ l. test l ≡ false) letters
 each_fails test [] h = tt
 each_fails test (l ∷ letters) h =
     let here : test l ≡ false = or_false_first (test l) (list_any test letters) h in

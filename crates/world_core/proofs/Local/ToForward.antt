@@ -1,11 +1,12 @@
 -- What a rank has to forward, and its first letter.
-use Rattle.std.proofs.Common.{◌≡◌, ◌≢◌, ℕ, Bool, true, false, not, nat_eq, List, [], ◌∷◌, ◌++◌, length, drop, refl, eq-eqb, ltb-true, ne_eqb, if◌then◌else◌, ◌≤◌, ◌&&◌, sym, ap, ◌∙◌, subst, append_assoc, arith, length-append, zero, suc, ◌+◌, Some, slice_get}
+use Rattle.std.proofs.Common.{◌≡◌, ◌≢◌, ℕ, Bool, true, false, not, nat_eq, nat_lt, lt-ltb, le-ltb, List, [], ◌∷◌, ◌++◌, length, drop, refl, eq-eqb, ltb-true, ne_eqb, if◌then◌else◌, ◌≤◌, ◌&&◌, sym, ap, ◌∙◌, subst, append_assoc, arith, length-append, length-drop, inl, inr, zero, suc, ◌+◌, Some, slice_get}
 use Rattle.msg_codec.specs.declared.letter.Letter.{Letter}
 use Rattle.world_core.specs.Local.{Local, is_rank, having_put, to_forward}
 use Rattle.world_core.specs.Pairs.{pair_put, pair_taken, of_pair}
 use Rattle.world_core.specs.Rules.{is_first_of, same_letter}
 use Rattle.list_facts.proofs.Tests.{and_first, and_second}
 use Rattle.std.proofs.Math.Seq.{drop-append_seam}
+use Rattle.std.proofs.lemmas.Bool.{cases_lt}
 use Rattle.std.proofs.lemmas.List.{drop_all}
 use Rattle.list_facts.specs.Prefix.{IsPrefix}
 use Rattle.world_core.proofs.Local.Between.{IsThird, not_equal}
@@ -84,30 +85,35 @@ module _ (me : Local) (to : ℕ) (before : List Letter) (s d n : ℕ) (count : n
       either true = ap (λ xs. is_first_of xs l) same_rest ∙ none_first (pair_taken s d me.log) n l few
       either false = refl
 
--- a rank forwards nothing for a pair that it may not forward for
-pub forwards_none : (me : Local) (s d : ℕ) (l : Letter) → may_forward me s d ≡ false → is_first_of (to_forward me s d) l ≡ false
-unfolding to_forward
-forwards_none me s d l h = rw h refl
+-- it may not for letters of its own, nor for letters for itself
+pub no_own : (me : Local) (s d : ℕ) → s ≡ me.here → may_forward me s d ≡ false
+no_own me s d e =
+    let same : nat_eq me.here s ≡ true = eq-eqb _ _ (sym e) in
+    either (is_rank me.layout s && is_rank me.layout d) (nat_eq me.here s) (not (nat_eq me.here d)) same
+  where
+    either : (a b c : Bool) → b ≡ true → (a && not b && c) ≡ false
+    either true b c h = rw h refl
+    either false b c h = refl
 
--- neither a letter for itself,
-pub not_own : (me : Local) (s d : ℕ) (l : Letter) → d ≡ me.here → is_first_of (to_forward me s d) l ≡ false
-not_own me s d l e =
+pub none_for_itself : (me : Local) (s d : ℕ) → d ≡ me.here → may_forward me s d ≡ false
+none_for_itself me s d e =
     let same : nat_eq me.here d ≡ true = eq-eqb _ _ (sym e) in
-    forwards_none me s d l (either (is_rank me.layout s && is_rank me.layout d && not (nat_eq me.here s)) (nat_eq me.here d) same)
+    either (is_rank me.layout s && is_rank me.layout d && not (nat_eq me.here s)) (nat_eq me.here d) same
   where
     either : (a b : Bool) → b ≡ true → (a && not b) ≡ false
     either true b h = rw h refl
     either false b h = refl
 
--- nor one of its own
+-- a rank forwards nothing for a pair that it may not forward for
+forwards_none : (me : Local) (s d : ℕ) (l : Letter) → may_forward me s d ≡ false → is_first_of (to_forward me s d) l ≡ false
+unfolding to_forward
+forwards_none me s d l h = rw h refl
+
+pub not_own : (me : Local) (s d : ℕ) (l : Letter) → d ≡ me.here → is_first_of (to_forward me s d) l ≡ false
+not_own me s d l e = forwards_none me s d l (none_for_itself me s d e)
+
 pub not_sender : (me : Local) (s d : ℕ) (l : Letter) → s ≡ me.here → is_first_of (to_forward me s d) l ≡ false
-not_sender me s d l e =
-    let same : nat_eq me.here s ≡ true = eq-eqb _ _ (sym e) in
-    forwards_none me s d l (either (is_rank me.layout s && is_rank me.layout d) (nat_eq me.here s) (not (nat_eq me.here d)) same)
-  where
-    either : (a b c : Bool) → b ≡ true → (a && not b && c) ≡ false
-    either true b c h = rw h refl
-    either false b c h = refl
+not_sender me s d l e = forwards_none me s d l (no_own me s d e)
 
 -- a rank that may forward for a pair is neither of the two
 forwards_third : (me : Local) (s d : ℕ) → may_forward me s d ≡ true → IsThird me.layout s d me.here
@@ -130,3 +136,21 @@ pub none_to_forward : (me : Local) (s d : ℕ) → (IsThird me.layout s d me.her
     to_forward me s d ≡ []
 unfolding to_forward
 none_to_forward me s d few = none_if (may_forward me s d) _ (λ h. drop_all _ _ (few (forwards_third me s d h)))
+
+-- ---- whether a rank has something to forward
+
+-- nothing is left of a list where as many are dropped
+drop_left : (xs : List Letter) (n : ℕ) → nat_lt n (length xs) ≡ nat_lt 0 (length (drop n xs))
+drop_left xs n = elim (cases_lt n (length xs)) [
+  | inl less ↦ lt-ltb n (length xs) less ∙ sym (lt-ltb 0 (length (drop n xs)) (simp length-drop (omega arith)))
+  | inr most ↦ le-ltb n (length xs) most ∙ sym (le-ltb 0 (length (drop n xs)) (simp length-drop (omega arith)))
+]
+
+pub forwards_some : (me : Local) (s d : ℕ) → may_forward me s d ≡ true →
+    nat_lt (length (pair_put s d me.log)) (length (pair_taken s d me.log)) ≡ nat_lt 0 (length (to_forward me s d))
+unfolding to_forward
+forwards_some me s d may = rw may (drop_left (pair_taken s d me.log) (length (pair_put s d me.log)))
+
+pub forwards_nothing : (me : Local) (s d : ℕ) → may_forward me s d ≡ false → nat_lt 0 (length (to_forward me s d)) ≡ false
+unfolding to_forward
+forwards_nothing me s d h = rw h refl
