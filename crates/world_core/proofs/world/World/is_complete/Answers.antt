@@ -1,4 +1,4 @@
-use Rattle.std.proofs.Common.{◌≡◌, ◌≤◌, ◌<◌, ◌||◌, Bool, true, false, not, nat_lt, lt-ltb, le-ltb, add-one, refl, sym, ap, ◌∙◌, arith}
+use Rattle.std.proofs.Common.{◌≡◌, ◌≤◌, ◌<◌, true, false, not, nat_lt, lt-ltb, le-ltb, add-one, refl, sym, ap, ◌∙◌, arith}
 use Rattle.list_facts.specs.Below.{some_below}
 use Rattle.list_facts.proofs.Below.{some_at}
 use Rattle.world_core.specs.Counts.{counts}
