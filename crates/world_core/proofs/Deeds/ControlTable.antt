@@ -1,5 +1,5 @@
 -- The first rule that a put of one control letter breaks.
-use Rattle.std.proofs.Common.{◌≡◌, ℕ, Bool, true, false, not, ◌&&◌, ◌||◌, nat_eq, eq-eqb, Some, None, List, [], ◌∷◌, refl, sym, ◌∙◌, subst, if◌then◌else◌}
+use Rattle.std.proofs.Common.{◌≡◌, ℕ, Bool, true, false, not, ◌&&◌, nat_eq, eq-eqb, Some, None, [], ◌∷◌, refl, sym, ◌∙◌, subst, if◌then◌else◌}
 use Rattle.std.proofs.lemmas.Bool.{false_from_ne_true}
 use Rattle.msg_codec.specs.Control.{IsCountFrom, IsTotalTo, control_of_letter, is_control, is_count, is_total}
 use Rattle.msg_codec.specs.declared.letter.Letter.{Letter}
@@ -61,9 +61,11 @@ uncontrolled me to l none control = by_kind (is_count l) refl
     of_count : (b : Bool) → is_count l ≡ true → nat_eq l.to 0 ≡ b → wrong_control me to l ≡ true
     of_count true count first = absurd (let some = rw (count, first) at none in cc)
     of_count false count other = wrong_count me to l count (inner_fails (nat_eq l.from me.here) (nat_eq l.to 0) (nat_eq to 0) other)
+
     of_total : (b : Bool) → is_count l ≡ false → is_total l ≡ true → nat_eq l.from 0 ≡ b → wrong_control me to l ≡ true
     of_total true plain total first = absurd (let some = rw (plain, total, first) at none in cc)
     of_total false plain total other = wrong_total me to l total (inner_fails (nat_eq me.here 0) (nat_eq l.from 0) (nat_eq l.to to) other)
+
     by_kind : (b : Bool) → is_count l ≡ b → wrong_control me to l ≡ true
     by_kind true count = of_count (nat_eq l.to 0) count refl
     by_kind false plain = of_total (nat_eq l.from 0) plain (let total : is_total l ≡ true = rw plain at control in total) refl
