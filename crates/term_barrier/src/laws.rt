@@ -9,8 +9,14 @@ ghost use Rattle.std.specs.List.{AllByRecursion};
 ghost use Rattle.list_facts.specs.Sublist.{IsSublist};
 ghost use Rattle.msg_codec.specs.declared.letter.Letter.{Letter};
 ghost use Rattle.world_core.specs.declared.entry.Entry.{Entry};
+ghost use Rattle.world_core.specs.Counts.{before_count};
+ghost use Rattle.world_core.specs.Local.{Local};
 ghost use Rattle.world_core.specs.Log.{letters_put, letters_taken};
+ghost use Rattle.world_core.specs.Modest.{IsModest};
 ghost use Rattle.world_core.specs.Pairs.{arrived, is_data, of_pair};
+ghost use Rattle.world_core.specs.Sound.{IsSound};
+ghost use Rattle.world_core.specs.Wave.{IsQuiet};
+ghost use Rattle.world_core.specs.World.{Logs, log_of};
 ghost use Rattle.comm_rank.specs.declared.turn.Turn.{Turn};
 ghost use Rattle.comm_rank.specs.Agrees.{Agrees};
 ghost use Rattle.comm_rank.specs.Fold.{Applies, fold_from};
@@ -19,7 +25,7 @@ ghost use Rattle.comm_rank.specs.Turns.{Turned};
 ghost use Rattle.term_barrier.specs.Account.{Account, IsUpToDate, RankHandler, handler_at, handler_of, with_more};
 ghost use Rattle.term_barrier.specs.CompleteRun.{IsCompleteRun, OwnLetters, earlier};
 ghost use Rattle.term_barrier.specs.CountedPlace.{IsCountedPlace, MovesNone};
-ghost use Rattle.term_barrier.specs.Cuts.{AreQuietCuts, arrivals_of, phase_part, phase_start};
+ghost use Rattle.term_barrier.specs.Cuts.{AreQuietCuts, IsQuietCut, arrivals_of, phase_part, phase_start};
 ghost use Rattle.term_barrier.specs.Merge.{IsMerge};
 ghost use Rattle.term_barrier.specs.Passed.{HasPassed, LevelsRise, TookPrefixes};
 
@@ -108,6 +114,16 @@ pub fn a_counted_place_ends_a_phase<C>()
         (held : List Letter) (log : List Entry) → ((k : ℕ) → k < phase → other_cut k ≡ cut k) →
         ((k to : ℕ) → k ≤ phase → other k to ≡ own k to) →
         Account handler own cut phase held log → Account handler other other_cut phase held log }
+{}
+
+/// Worlds give what the laws below ask for. The cut at a quiet round is quiet, by the places of its Counts. In a sound
+/// world, what was taken is a prefix of what was put. What a modest log took came from ranks of the world.
+pub fn worlds_give_what_these_laws_ask()
+    ensures quiet { (world : Logs) (q : ℕ) → IsQuiet world q →
+        IsQuietCut world.layout.ranks (log_of world) (λ rank. length (before_count q (log_of world rank))) }
+    ensures took { (world : Logs) → IsSound world → TookPrefixes (log_of world) }
+    ensures senders { (me : Local) → IsModest me →
+        AllByRecursion (λ l. l.from < me.layout.ranks) (arrived me.here me.log) }
 {}
 
 /// Where every rank has an account of all phases, and the cut that ends each phase is quiet, the own letters have a

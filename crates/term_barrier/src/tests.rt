@@ -36,6 +36,7 @@ fn the_laws_can_be_cited() {
     control_letters_keep_the_account::<u64>();
     a_count_with_nothing_held_is_at_a_counted_place::<u64>();
     a_counted_place_ends_a_phase::<u64>();
+    worlds_give_what_these_laws_ask();
     accounts_and_quiet_cuts_make_a_complete_run::<u64>();
     nothing_arrives_after_the_last_cut::<u64>();
     contents_are_the_fold_of_all_phases::<Silent>();
