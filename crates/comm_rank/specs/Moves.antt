@@ -5,8 +5,8 @@ use Rattle.msg_codec.specs.declared.letter.Letter.{Letter}
 use Rattle.ygm_route.specs.declared.scheme.Scheme.TheVariants.{Direct}
 use Rattle.world_core.specs.declared.entry.Entry.{Entry}
 use Rattle.world_core.specs.Limits.{most_letters}
-use Rattle.world_core.specs.Log.{letters_of}
-use Rattle.world_core.specs.Pairs.{of_pair, of_sender, own, sent}
+use Rattle.world_core.specs.Log.{letters_of, letters_put}
+use Rattle.world_core.specs.Pairs.{is_data, of_pair, own_count, sent, sent_number}
 use Rattle.world_core.specs.Post.{CountsNeverFall, FullsRise, SameFulls, SameMisses, SamePost, SameStops, PostState, local_at}
 use Rattle.world_core.specs.Rules.{IsHonest}
 use Rattle.comm_rank.specs.declared.fault.CommFault.{CommFault}
@@ -16,14 +16,15 @@ use Rattle.comm_rank.specs.Rank.{Rank, ran_at, sent_to}
 use Rattle.comm_rank.specs.Turns.{FirstFull, IsPut, MetFull, NoneOrFull}
 
 -- A rank may put what it holds: it is a rank of the post's world, where letters go straight to their destination; the
--- letters that it holds are its own, and with them it has sent no more than a rank may.
+-- letters that it holds are its own, and with them it has sent no more than a rank may; and it put data letters alone.
 pub record MayPut (here : ℕ) (held : List (List Letter)) (post : PostState) : Type 0 where
   pub all : length held ≡ post.layout.ranks
   pub within : here < post.layout.ranks
   pub serves : IsTrue (post.serves here)
   pub direct : post.scheme ≡ Direct
   pub own_alone : (from to : ℕ) → from ≢ here → of_pair from to (letters_of held) ≡ []
-  pub few : length (own here (post.log here)) + length (of_sender here (letters_of held)) ≤ most_letters
+  pub few : own_count here (post.log here) + sent_number here (letters_of held) ≤ most_letters
+  pub data_alone : AllByRecursion (λ l. IsTrue (is_data l)) (letters_put (post.log here))
 
 -- what puts leave unchanged at the post
 pub record MoveKeeps (here : ℕ) (old new : PostState) : Type 0 where
@@ -33,14 +34,15 @@ pub record MoveKeeps (here : ℕ) (old new : PostState) : Type 0 where
   pub halts : new.halts ≡ old.halts
   pub counts : CountsNeverFall old new
 
--- Letters moved from what a rank holds into its log, which gained honest puts alone. What was sent to each rank is
--- unchanged, and so is its count.
+-- Letters moved from what a rank holds into its log, which gained honest puts of data letters alone. What was sent to each
+-- rank is unchanged, and so is its count.
 pub record Moved (here : ℕ) (before after : List (List Letter)) (old new : PostState) (placed : List Entry) : Type 0 where
   pub log : new.log here ≡ old.log here ++ placed
   pub puts : AllByRecursion IsPut placed
+  pub data_alone : AllByRecursion (λ l. IsTrue (is_data l)) (letters_put placed)
   pub honest : IsHonest (local_at old here) → IsHonest (local_at new here)
   pub sent_unchanged : (to : ℕ) → sent here to (new.log here) (letters_of after) ≡ sent here to (old.log here) (letters_of before)
-  pub count_unchanged : length (own here (new.log here)) + length (of_sender here (letters_of after)) ≡ length (own here (old.log here)) + length (of_sender here (letters_of before))
+  pub count_unchanged : own_count here (new.log here) + sent_number here (letters_of after) ≡ own_count here (old.log here) + sent_number here (letters_of before)
   pub none_more : (from to : ℕ) → of_pair from to (letters_of before) ≡ [] → of_pair from to (letters_of after) ≡ []
   pub all : length after ≡ length before
   pub keeps : MoveKeeps here old new

@@ -1,5 +1,5 @@
 -- What a rank does with the letters that it took. Only private functions cite this.
-use Rattle.std.specs.Prelude.{◌≡◌, ◌≢◌, ℕ, ◌+◌, ◌<◌, ◌≤◌, IsTrue, List, [], ◌∷◌, ◌++◌, length}
+use Rattle.std.specs.Prelude.{◌≡◌, ◌≢◌, ℕ, ◌+◌, ◌<◌, ◌≤◌, Bool, false, not, IsTrue, List, [], ◌∷◌, ◌++◌, length, if◌then◌else◌}
 use Rattle.std.specs.List.{AllByRecursion, AllPairs}
 use Rattle.msg_codec.specs.declared.letter.Letter.{Letter}
 use Rattle.world_core.specs.declared.entry.Entry.{Entry}
@@ -24,6 +24,15 @@ pub record IsFor (rank : ℕ) (l : Letter) : Type 0 where
 pub record IsOf (rank : ℕ) (l : Letter) : Type 0 where
   pub sender : l.from ≡ rank
   pub tag : IsTrue (is_data l)
+
+-- a batch begins with a letter that isn't a data letter
+abbrev pub begins_with_control : List Letter → Bool
+begins_with_control [] = false
+begins_with_control (l ∷ letters) = not (is_data l)
+
+-- The letters of a batch for handlers: all of them, or none where it begins with a control letter, which is alone in it.
+abbrev pub for_handlers : List Letter → List Letter
+for_handlers batch = if begins_with_control batch then [] else batch
 
 -- ---- letters that ran
 

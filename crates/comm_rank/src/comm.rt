@@ -24,7 +24,8 @@ use world_core::Limits;
 use ygm_route::{Layout, Scheme};
 
 /// One rank of a world: its handler, and the letters that it holds until its links take them. It reaches the links
-/// through a post, which is passed to each turn. After a turn that failed it is stopped for good.
+/// through a post, which is passed to each turn. It sends data letters alone, and control letters that it takes reach
+/// no handler. After a turn that failed it is stopped for good.
 #[derive(Drop)]
 pub struct Comm<H> {
     pub(crate) alloc: Global,

@@ -9,15 +9,18 @@ ghost use Rattle.comm_rank.specs.declared.fault.CommFault.TheVariants.{Stopped};
 ghost use Rattle.comm_rank.specs.Fold.{letter_by};
 ghost use Rattle.comm_rank.specs.Held.{Gains};
 ghost use Rattle.comm_rank.specs.Rank.{Worked};
-ghost use Rattle.comm_rank.specs.Running.{HasTakenAll, HasTakenFrom, IsFor, RanFirst, RanWaiting, StuckFirst, StuckIn, TakesKeep, WasCutFrom, WorkKeeps};
+ghost use Rattle.comm_rank.specs.Running.{HasTakenAll, HasTakenFrom, IsFor, RanFirst, RanWaiting, StuckFirst, StuckIn, TakesKeep, WasCutFrom, WorkKeeps, begins_with_control};
 ghost use Rattle.comm_rank.specs.Turns.{HasEnded, HasFailed, HasHalted, KeepsPost, WasCut};
 
 use crate::comm::hold;
 use crate::held::Held;
 use crate::waiting::Waiting;
 use crate::{Comm, CommFault, Handler, Outgoing};
-use msg_codec::Counter;
+use msg_codec::{Batch, Counter};
 use world_core::Post;
+
+/// The tags of data letters are below this one.
+const DATA_TAGS: u8 = 240;
 
 /// What a turn did: how many batches it took, how many it put, and the lowest rank to which the link was full.
 /// A count at the largest value of its type stays there.
@@ -54,10 +57,17 @@ fn send_out(
     Ok(())
 }
 
+/// Whether a batch begins with a control letter, which is alone in it where the batch broke no rule.
+fn begins_with_control(batch: &Batch) -> bool
+    ensures { result ≡ begins_with_control batch.now }
+{
+    batch.count() > 0 && batch.letter_at(0).tag >= DATA_TAGS
+}
+
 impl<H: Handler> Comm<H> {
     /// A turn. It looks whether the stop is raised. Then it takes at most one batch from each link, in the order of
-    /// ranks, and runs the letters for this rank in order. Then it puts what the rank holds, destination by
-    /// destination, until nothing remains or the link is full.
+    /// ranks, and runs the letters for this rank in order; a control letter is for no handler, and isn't run. Then it
+    /// puts what the rank holds, destination by destination, until nothing remains or the link is full.
     ///
     /// Where a rank has raised the stop, it returns `Stopped` and does nothing. Where a letter can't run or be put,
     /// for lack of memory or because the handler gave a letter too many, this rank raises the stop, and the letters
@@ -97,7 +107,8 @@ impl<H: Handler> Comm<H> {
         Ok(Turn { took, put, full })
     }
 
-    /// Takes a batch from each link that isn't empty, and runs its letters. It returns how many it took.
+    /// Takes a batch from each link that isn't empty, and runs its letters, unless it is a control letter. It returns
+    /// how many it took.
     fn take_all<P: Post>(&mut self, post: &mut P) -> Result<u32, CommFault>
         requires belongs { Belongs H.apply H.start self.old (P.state post.old) }
         ensures took { IfOk result (HasTakenAll H.apply H.start self.old self.new (P.state post.old) (P.state post.new)) }
@@ -112,7 +123,8 @@ impl<H: Handler> Comm<H> {
         Ok(took)
     }
 
-    /// Takes a batch from the link of one rank, if it isn't empty, and runs its letters. It returns how many it took.
+    /// Takes a batch from the link of one rank, if it isn't empty, and runs its letters, unless it is a control letter.
+    /// It returns how many it took.
     fn take_from<P: Post>(&mut self, post: &mut P, from: u32) -> Result<u32, CommFault>
         requires belongs { Belongs H.apply H.start self.old (P.state post.old) }
         requires sender { from < self.old.layout.ranks }
@@ -124,6 +136,9 @@ impl<H: Handler> Comm<H> {
         let Some(batch) = post.take(self.here, from) else {
             return Ok(0);
         };
+        if begins_with_control(&batch) {
+            return Ok(1);
+        }
         self.waiting = Waiting::of(batch);
         self.run_waiting()?;
         Ok(1)

@@ -1,5 +1,5 @@
 //! What a log put and took of control letters, and before them.
-ghost use Rattle.std.specs.Prelude.{◌≡◌, ◌≤◌, ◌&&◌, ◌==◌, [], ◌∷◌, length, filter, option_map, if◌then◌else◌, Some, None};
+ghost use Rattle.std.specs.Prelude.{◌≡◌, ◌&&◌, ◌==◌, [], ◌∷◌, length, filter, option_map, if◌then◌else◌, Some, None};
 ghost use Rattle.std.specs.List.{find, list_any};
 ghost use Rattle.msg_codec.specs.Control.{is_control, is_count, is_total, round_of};
 ghost use Rattle.msg_codec.specs.Letter.{letter_of};
@@ -20,7 +20,7 @@ pub struct Numbers {
 }
 
 /// Whether a batch has a control letter.
-#[tactic(auto, using(list_facts::proofs::Tests::any_hit, list_facts::proofs::Tests::any_none, list_facts::proofs::Tests::any_all))]
+#[tactic(auto, using(list_facts::proofs::Tests::any_hit, list_facts::proofs::Tests::any_all))]
 pub fn has_control(letters: &Letters) -> bool
     ensures { result ≡ list_any is_control letters.now }
 {
@@ -57,7 +57,7 @@ fn puts_count(entry: &Entry) -> bool
 
 /// The number of Counts that a log put.
 pub fn counts(log: &[Entry]) -> u64
-    ensures value { result ≡ counts log.now }
+    ensures { result ≡ counts log.now }
 {
     let mut count = 0;
     for entry in log {
@@ -158,8 +158,13 @@ fn count_by(entry: &Entry, rank: u32, q: u64) -> Option<Numbers>
     ensures { result ≡ option_map numbers_read (count_taken rank q (entry.now ∷ [])) }
 {
     match entry {
-        Entry::Took { from, letters } if *from == rank => count_in(letters, rank, q),
-        _ => None,
+        Entry::Put { .. } => None,
+        Entry::Took { from, letters } => {
+            if *from != rank {
+                return None;
+            }
+            count_in(letters, rank, q)
+        }
     }
 }
 
@@ -177,19 +182,14 @@ fn count_in(letters: &Letters, rank: u32, q: u64) -> Option<Numbers>
 }
 
 /// The numbers in a letter that is the Count of a round of a rank.
-fn read_count(l: LetterRef<'_>, rank: u32, q: u64) -> Option<Numbers>
-    ensures { result ≡ (if is_count_of rank (letter_of l.entry) && (round_of (letter_of l.entry) == q)
+fn read_count(l: LetterRef<'_>, sender: u32, round: u64) -> Option<Numbers>
+    ensures { result ≡ (if is_count_of sender (letter_of l.entry) && (round_of (letter_of l.entry) == round)
         then Some (numbers_read (letter_of l.entry)) else None) }
 {
     match control_of(l) {
-        Some(
-            Control::Count {
-                rank: from,
-                q: round,
-                s,
-                r,
-            },
-        ) if from == rank && round == q => { Some(Numbers { sent: s, run: r }) }
+        Some(Control::Count { rank, q, s, r }) if rank == sender && q == round => {
+            Some(Numbers { sent: s, run: r })
+        }
         _ => None,
     }
 }
@@ -212,8 +212,13 @@ fn total_by(entry: &Entry, here: u32, q: u128) -> Option<Numbers>
     ensures { result ≡ option_map numbers_read (total_taken here q (entry.now ∷ [])) }
 {
     match entry {
-        Entry::Took { from, letters } if *from == 0 => total_in(letters, here, q),
-        _ => None,
+        Entry::Put { .. } => None,
+        Entry::Took { from, letters } => {
+            if *from != 0 {
+                return None;
+            }
+            total_in(letters, here, q)
+        }
     }
 }
 
@@ -231,12 +236,12 @@ fn total_in(letters: &Letters, here: u32, q: u128) -> Option<Numbers>
 }
 
 /// The numbers in a letter that is the Total of a round to a rank.
-fn read_total(l: LetterRef<'_>, here: u32, q: u128) -> Option<Numbers>
-    ensures { result ≡ (if is_total_to here (letter_of l.entry) && (round_of (letter_of l.entry) == q)
+fn read_total(l: LetterRef<'_>, here: u32, round: u128) -> Option<Numbers>
+    ensures { result ≡ (if is_total_to here (letter_of l.entry) && (round_of (letter_of l.entry) == round)
         then Some (numbers_read (letter_of l.entry)) else None) }
 {
     match control_of(l) {
-        Some(Control::Total { to, q: round, s, r }) if to == here && u128::from(round) == q => {
+        Some(Control::Total { to, q, s, r }) if to == here && u128::from(q) == round => {
             Some(Numbers { sent: s, run: r })
         }
         _ => None,

@@ -42,7 +42,8 @@ pub fn refusal_of_control(me: &Trial<'_>, to: u32, l: LetterRef<'_>) -> Option<W
 
 /// The first of these rules that a rank breaks by a Count of its own, put to rank 0, with these numbers.
 fn refusal_of_count(me: &Trial<'_>, q: u64, s: u64, r: u64) -> Option<Why>
-    ensures { (l : Letter) → IsCountFrom me.now.here q s r l → result ≡ first_broken_of control_rules (local_tried me.now) (Puts 0 (l ∷ [])) }
+    ensures { (l : Letter) → IsCountFrom me.now.here q s r l →
+        result ≡ first_broken_of control_rules (local_tried me.now) (Puts 0 (l ∷ [])) }
 {
     if is_count_early(me, q) {
         return Some(Why::CountEarly);
@@ -58,7 +59,8 @@ fn refusal_of_count(me: &Trial<'_>, q: u64, s: u64, r: u64) -> Option<Why>
 
 /// Whether a Count of round `q` comes too early.
 fn is_count_early(me: &Trial<'_>, q: u64) -> bool
-    ensures { (to : ℕ) (l : Letter) → is_count l ≡ true → round_of l ≡ q → result ≡ count_early (local_tried me.now) to l }
+    ensures { (to : ℕ) (l : Letter) → is_count l ≡ true → round_of l ≡ q →
+        result ≡ count_early (local_tried me.now) to l }
 {
     q != counts(me.log) || (q > 0 && total_taken(me.log, me.here, u128::from(q - 1)).is_none())
 }
@@ -75,10 +77,11 @@ fn has_to_forward(me: &Trial<'_>) -> bool
     false
 }
 
-/// Whether it has one from this rank.
+/// Whether the rank has a letter to forward that this rank sent.
 fn holds_from(me: &Trial<'_>, from: u32) -> bool
     requires { from < me.now.layout.now.ranks }
-    ensures { result ≡ some_below (λ to. nat_lt 0 (length (to_forward (local_tried me.now) from to))) me.now.layout.now.ranks }
+    ensures { result ≡
+        some_below (λ to. nat_lt 0 (length (to_forward (local_tried me.now) from to))) me.now.layout.now.ranks }
 {
     for to in 0..me.layout.ranks() {
         if holds_pair(me, from, to) {
@@ -88,7 +91,7 @@ fn holds_from(me: &Trial<'_>, from: u32) -> bool
     false
 }
 
-/// Whether it has one from the one to the other.
+/// Whether the rank has a letter to forward that the one sent to the other.
 fn holds_pair(me: &Trial<'_>, from: u32, to: u32) -> bool
     requires from_within { from < me.now.layout.now.ranks }
     requires to_within { to < me.now.layout.now.ranks }
@@ -102,7 +105,8 @@ fn holds_pair(me: &Trial<'_>, from: u32, to: u32) -> bool
 
 /// Whether a Count with these numbers of letters sent and run doesn't carry what the log says.
 fn is_count_wrong(me: &Trial<'_>, s: u64, r: u64) -> bool
-    ensures { (to : ℕ) (l : Letter) → is_count l ≡ true → sent_of l ≡ s → run_of l ≡ r → result ≡ count_wrong (local_tried me.now) to l }
+    ensures { (to : ℕ) (l : Letter) → is_count l ≡ true → sent_of l ≡ s → run_of l ≡ r →
+        result ≡ count_wrong (local_tried me.now) to l }
 {
     u128::from(s) != own_count(me.log, me.here) || u128::from(r) != run_count(me.log, me.here)
 }
@@ -110,7 +114,8 @@ fn is_count_wrong(me: &Trial<'_>, s: u64, r: u64) -> bool
 /// The first of these rules that rank 0 breaks by a Total to a rank, put there, with these numbers.
 fn refusal_of_total(me: &Trial<'_>, to: u32, q: u64, s: u64, r: u64) -> Option<Why>
     requires { me.now.here ≡ 0 }
-    ensures { (l : Letter) → IsTotalTo to q s r l → result ≡ first_broken_of control_rules (local_tried me.now) (Puts to (l ∷ [])) }
+    ensures { (l : Letter) → IsTotalTo to q s r l →
+        result ≡ first_broken_of control_rules (local_tried me.now) (Puts to (l ∷ [])) }
 {
     if is_total_early(me, to, q) {
         return Some(Why::TotalEarly);
@@ -123,14 +128,16 @@ fn refusal_of_total(me: &Trial<'_>, to: u32, q: u64, s: u64, r: u64) -> Option<W
 
 /// Whether a Total of round `q` to a rank comes too early.
 fn is_total_early(me: &Trial<'_>, to: u32, q: u64) -> bool
-    ensures { (l : Letter) → is_total l ≡ true → round_of l ≡ q → result ≡ total_early (local_tried me.now) to l }
+    ensures { (l : Letter) → is_total l ≡ true → round_of l ≡ q →
+        result ≡ total_early (local_tried me.now) to l }
 {
     u128::from(q) != totals(me.log, to) || lacks_count(me, q)
 }
 
 /// Whether the Count of a round of some rank wasn't taken.
 fn lacks_count(me: &Trial<'_>, q: u64) -> bool
-    ensures { result ≡ some_below (λ rank. not (is_some (count_taken rank q me.now.log.now))) me.now.layout.now.ranks }
+    ensures { result ≡
+        some_below (λ rank. not (is_some (count_taken rank q me.now.log.now))) me.now.layout.now.ranks }
 {
     for rank in 0..me.layout.ranks() {
         if count_taken(me.log, rank, q).is_none() {

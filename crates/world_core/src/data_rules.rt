@@ -112,7 +112,7 @@ fn is_sent_while_counted(me: &Trial<'_>, to: u32, letters: &Letters) -> bool
 }
 
 /// Whether a batch has a letter that a rank sent.
-#[tactic(auto, using(list_facts::proofs::Tests::any_hit, list_facts::proofs::Tests::any_none, list_facts::proofs::Tests::any_all))]
+#[tactic(auto, using(list_facts::proofs::Tests::any_hit, list_facts::proofs::Tests::any_all))]
 fn has_own(letters: &Letters, rank: u32) -> bool
     ensures { result ≡ list_any (λ l. is_data l && (l.from == rank)) letters.now }
 {

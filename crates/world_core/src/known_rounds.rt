@@ -28,7 +28,8 @@ pub fn ends_from(first: u128, q: u128, before: Sums, sums: Sums) -> bool
     first < q && agree(before, sums)
 }
 
-/// The first round of the barrier that a rank is in, or that comes next, as it learns from the Totals that its log took.
+/// The first round of the barrier that a rank is in, or that comes next. The rank learns it from the Totals that it
+/// took.
 pub fn barrier_start(log: &[Entry], here: u32) -> u128
     ensures { result ≡ barrier_start here log.now }
 {

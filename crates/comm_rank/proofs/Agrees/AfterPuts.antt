@@ -1,6 +1,8 @@
 -- A rank still agrees with its log after it put some of what it holds.
 use Rattle.std.proofs.Common.{◌≡◌, ◌≢◌, ℕ, ◌+◌, ◌-◌, ◌<◌, ◌≤◌, Option, Result, Ok, Err, List, [], ◌∷◌, ◌++◌, length, take, refl, sym, ap, ◌∙◌, subst, append-nil, append_assoc, arith}
+use Rattle.std.specs.Bool.{IsTrue}
 use Rattle.std.specs.List.{AllByRecursion}
+use Rattle.std.proofs.lemmas.Grind.{flat_map-append}
 use Rattle.std.specs.Result.{IfErr, IfOk}
 use Rattle.msg_codec.specs.declared.letter.Letter.{Letter}
 use Rattle.ygm_route.specs.declared.scheme.Scheme.TheVariants.{Direct}
@@ -8,15 +10,14 @@ use Rattle.ygm_route.specs.Layout.{Shape}
 use Rattle.world_core.specs.declared.entry.Entry.{Entry}
 use Rattle.world_core.specs.declared.entry.Entry.TheVariants.{Put, Took}
 use Rattle.world_core.specs.Limits.{most_letters}
-use Rattle.world_core.specs.Local.{Local}
-use Rattle.world_core.specs.Log.{batches_taken, letters_of, letters_taken}
-use Rattle.world_core.specs.Modest.{IsLawful, IsModest}
-use Rattle.world_core.specs.Pairs.{arrived, for_rank, of_pair, of_sender, own}
+use Rattle.world_core.specs.Log.{batches_taken, letters_of, letters_put, letters_put_by, letters_taken}
+use Rattle.world_core.specs.Modest.{IsModest}
+use Rattle.world_core.specs.Pairs.{arrived, for_rank, is_data, of_pair, own_count, sent_number}
 use Rattle.world_core.specs.Post.{SamePost, PostState, local_at}
 use Rattle.world_core.specs.Rules.{IsHonest}
-use Rattle.world_core.specs.Sound.{IsOnPath}
-use Rattle.list_facts.proofs.Elements.{all_weaker}
+use Rattle.list_facts.proofs.Elements.{all_append}
 use Rattle.world_core.proofs.Log.Appended.{letters_taken-put, batches_taken-put}
+use Rattle.world_core.proofs.Modest.AfterPut.{modest_puts}
 use Rattle.list_facts.specs.Sublist.{IsSublist}
 use Rattle.comm_rank.specs.Agrees.{Agrees, Belongs}
 use Rattle.comm_rank.specs.Fold.{Applies, fold_from, handed_from}
@@ -40,19 +41,12 @@ same_batches_taken from (Put to batch ∷ placed) log all =
     ap (batches_taken from) (sym (append_assoc log (Put to batch ∷ []) placed)) ∙ same_batches_taken from placed (log ++ Put to batch ∷ []) all.1 ∙ batches_taken-put log to from batch
 same_batches_taken from (Took sender batch ∷ placed) log all = absurd all.0
 
-pub modest_still : (me : Local) (placed : List Entry) → AllByRecursion IsPut placed → IsModest me → IsModest (record me { log = me.log ++ placed })
-modest_still me placed all modest =
-    let taken : letters_taken (me.log ++ placed) ≡ letters_taken me.log = same_taken placed me.log all in
-    record {
-      few = omega (arith, ap (λ ls. length (for_rank me.here ls)) taken, modest.few);
-      lawful = (let P : List Letter → Type 0 = AllByRecursion (IsLawful me) in all_lawful (subst P (sym taken) modest.lawful));
-      on_path = λ from.
-          let P : List (List Letter) → Type 0 = λ bs. AllByRecursion (IsOnPath me.layout me.scheme from me.here) (letters_of bs) in
-          subst P (sym (same_batches_taken from placed me.log all)) (modest.on_path from);
-    }
-  where
-    all_lawful : AllByRecursion (IsLawful me) (letters_taken (me.log ++ placed)) → AllByRecursion (IsLawful (record me { log = me.log ++ placed })) (letters_taken (me.log ++ placed))
-    all_lawful h = all_weaker _ _ _ (λ l k. record { destination = k.destination; sender = k.sender; tag = k.tag }) h
+-- a log that put data letters alone gains puts of data letters alone
+pub data_put : (log now placed : List Entry) → now ≡ log ++ placed → AllByRecursion (λ l. IsTrue (is_data l)) (letters_put log) →
+    AllByRecursion (λ l. IsTrue (is_data l)) (letters_put placed) → AllByRecursion (λ l. IsTrue (is_data l)) (letters_put now)
+data_put log now placed gained all more =
+    let whole : letters_put now ≡ letters_put log ++ letters_put placed = ap letters_put gained ∙ flat_map-append letters_put_by log placed in
+    subst (AllByRecursion (λ l. IsTrue (is_data l))) (sym whole) (all_append (λ l. IsTrue (is_data l)) (letters_put log) (letters_put placed) all more)
 
 -- ---- the rank
 
@@ -71,12 +65,12 @@ module _ {C : Type 0} (apply : Applies C) (start : C → C) (me : Rank C) (log :
         ap (λ xs. take (length xs - length (for_rank me.here me.waiting)) xs) same
 
     module _ (sent_unchanged : (to : ℕ) → sent_to new now to ≡ sent_to me log to)
-        (count_unchanged : length (own me.here now) + length (of_sender me.here (letters_of held)) ≡ length (own me.here log) + length (of_sender me.here (held_letters me)))
-        (alone : (from to : ℕ) → from ≢ me.here → of_pair from to (letters_of held) ≡ []) where
+        (count_unchanged : own_count me.here now + sent_number me.here (letters_of held) ≡ own_count me.here log + sent_number me.here (held_letters me))
+        (alone : (from to : ℕ) → from ≢ me.here → of_pair from to (letters_of held) ≡ []) (more : AllByRecursion (λ l. IsTrue (is_data l)) (letters_put placed)) where
       pub agrees_still : Agrees apply start new now
       agrees_still =
           let P : List Entry → Type 0 = λ l. IsModest (local_of me l) in
-          let modest : IsModest (local_of new now) = subst P (sym gained) (modest_still (local_of me log) placed puts agrees.modest) in
+          let modest : IsModest (local_of new now) = subst P (sym gained) (modest_puts (local_of me log) placed puts agrees.modest) in
           record {
             nothing_waits = agrees.nothing_waits;
             forwards = λ from to other. alone from to other ∙ sym (nothing_to_forward (local_of new now) direct modest from to);
@@ -87,6 +81,7 @@ module _ {C : Type 0} (apply : Applies C) (start : C → C) (me : Rank C) (log :
                 let Q : List Letter → List Letter → Type 0 = λ ran sent. IsSublist (of_pair me.here to (handed_from apply me.here me.layout.ranks (start me.contents) ran)) sent in
                 subst (λ ran. Q ran (sent_to new now to)) (sym ran_unchanged) (subst (λ sent. Q (ran_at me log) sent) (sym (sent_unchanged to)) (agrees.given_is_sent to));
             modest = modest;
+            data_alone = data_put log now placed gained agrees.data_alone more;
           }
 
 -- ---- from what puts did to what is held
@@ -105,6 +100,7 @@ module _ {C : Type 0} (apply : Applies C) (start : C → C) (me : Rank C) (old :
         direct = belongs.scheme ∙ direct;
         own_alone = own_alone apply start me (old.log me.here) agrees direct;
         few = omega (arith, few, agrees.sent_count);
+        data_alone = agrees.data_alone;
       }
 
   module _ (held : List (List Letter)) (new : PostState) (placed : List Entry) (moved : Moved me.here me.held held old new placed) where
@@ -119,7 +115,7 @@ module _ {C : Type 0} (apply : Applies C) (start : C → C) (me : Rank C) (old :
 
     agrees_after : Agrees apply start (record me { held = held }) (new.log me.here)
     agrees_after = agrees_still apply start me (old.log me.here) agrees direct held (new.log me.here) placed moved.log moved.puts moved.sent_unchanged moved.count_unchanged
-        (λ from to other. moved.none_more from to (own_alone apply start me (old.log me.here) agrees direct from to other))
+        (λ from to other. moved.none_more from to (own_alone apply start me (old.log me.here) agrees direct from to other)) moved.data_alone
 
     pub belongs_after : Belongs apply start (record me { held = held }) new
     belongs_after = record {

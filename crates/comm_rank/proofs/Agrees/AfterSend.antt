@@ -6,6 +6,7 @@ use Rattle.msg_codec.specs.declared.letter.Letter.{Letter}
 use Rattle.world_core.specs.declared.entry.Entry.{Entry}
 use Rattle.world_core.specs.Log.{letters_of}
 use Rattle.world_core.specs.Pairs.{is_data, is_of_pair, of_pair, of_sender, pair_put}
+use Rattle.world_core.proofs.Pairs.Numbers.{sent_number-is}
 use Rattle.list_facts.proofs.Tests.{and_first, and_second}
 use Rattle.list_facts.specs.Sublist.{IsSublist}
 use Rattle.list_facts.proofs.Sublist.{sublist_longer}
@@ -29,7 +30,15 @@ module _ {C : Type 0} (apply : Applies C) (start : C → C) (me : Rank C) (log :
         forwards = λ from to other.
             let none : of_pair from to (l ∷ []) ≡ [] = rw (not_of_pair from to me.here l mine other) refl in
             gains.pairs from to ∙ ap (λ xs. of_pair from to (held_letters me) ++ xs) none ∙ append-nil _ ∙ agrees.forwards from to other;
-        sent_count = omega (arith, counted, agrees.sent_count, gains.senders me.here, one);
+        sent_count = omega (
+          arith,
+          counted,
+          agrees.sent_count,
+          gains.senders me.here,
+          one,
+          sent_number-is me.here (held_letters me),
+          sent_number-is me.here (letters_of held),
+        );
         run_count = agrees.run_count;
         contents = agrees.contents;
         given_is_sent = λ to.
@@ -37,6 +46,7 @@ module _ {C : Type 0} (apply : Applies C) (start : C → C) (me : Rank C) (log :
             append_assoc (pair_put me.here to log) (of_pair me.here to (held_letters me)) (of_pair me.here to (l ∷ [])) ∙ ap (λ xs. pair_put me.here to log ++ xs) (sym (gains.pairs me.here to)) in
             subst (IsSublist _) longer (sublist_longer (of_pair me.here to (l ∷ [])) (agrees.given_is_sent to));
         modest = agrees.modest;
+        data_alone = agrees.data_alone;
       }
 
   pub agrees_unchanged : held ≡ me.held → count ≡ me.sent_count → Agrees apply start (record me { sent_count = count; held = held }) log

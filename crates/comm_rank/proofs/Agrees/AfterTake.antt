@@ -12,24 +12,25 @@ use Rattle.world_core.specs.declared.entry.Entry.{Entry}
 use Rattle.world_core.specs.declared.entry.Entry.TheVariants.{Put, Took}
 use Rattle.world_core.specs.Limits.{most_arrived}
 use Rattle.world_core.specs.Local.{Local, to_forward}
-use Rattle.world_core.specs.Log.{batches_put, batches_taken, letters_taken}
+use Rattle.world_core.specs.Log.{batches_put, batches_taken, letters_put, letters_taken}
 use Rattle.world_core.specs.Modest.{IsModest}
-use Rattle.world_core.specs.Pairs.{arrived, for_rank, is_of_pair, of_pair, of_sender, own, pair_put}
+use Rattle.world_core.specs.Pairs.{arrived, for_rank, is_data, is_of_pair, of_pair, own_count, pair_put, sent_number}
 use Rattle.world_core.specs.Post.{MissesRise, SamePost, PostState, TookBatch, link_in, local_at}
 use Rattle.world_core.specs.Rules.{IsHonest}
 use Rattle.world_core.proofs.Deeds.Honest.{honest_more}
 use Rattle.world_core.proofs.Pairs.Appended.{pair_put-took}
-use Rattle.world_core.proofs.Log.Appended.{batches_put-took, batches_taken-took}
+use Rattle.world_core.proofs.Pairs.Numbers.{own_count-took, run_number-is, sent_number-is}
+use Rattle.world_core.proofs.Log.Appended.{batches_put-took, batches_taken-took, letters_put-took}
 use Rattle.list_facts.specs.Sublist.{IsSublist}
 use Rattle.comm_rank.specs.Agrees.{Agrees, Belongs}
 use Rattle.comm_rank.specs.Fold.{Applies, fold_from, handed_from}
 use Rattle.comm_rank.specs.Held.{Gains}
 use Rattle.comm_rank.specs.Rank.{Rank, IsSameRank, handed, held_letters, local_of, ran_at, sent_to}
 use Rattle.comm_rank.specs.declared.fault.CommFault.{CommFault}
-use Rattle.comm_rank.specs.Running.{CutFrom, HasRunAll, IsFor, NotLookedAt, StuckIn, TookFrom, WasCutFrom}
+use Rattle.comm_rank.specs.Running.{CutFrom, HasRunAll, IsFor, NotLookedAt, StuckIn, TookFrom, WasCutFrom, for_handlers}
 use Rattle.comm_rank.specs.Turns.{Advanced, LookedAt}
 use Rattle.list_facts.proofs.Sublist.{sublist_append}
-use Rattle.comm_rank.proofs.Agrees.Arrived.{arrived-took, batch_for, for_all, forward_same, none_of_others, own-took, own_all, ran_all, ran_is}
+use Rattle.comm_rank.proofs.Agrees.Arrived.{Brings, arrived-took, brings, for_all, forward_same, none_of_others, own_all, ran_all, ran_is}
 use Rattle.comm_rank.proofs.Fold.Appended.{fold-append, handed-append, start_fold}
 use Rattle.comm_rank.proofs.Running.RunAll.{rest_for}
 use Rattle.comm_rank.proofs.Turns.Faults.{if_full}
@@ -87,12 +88,12 @@ taken_other from other batch log after is ne =
 
 -- ---- the rank afterwards
 
-module _ {C : Type 0} (apply : Applies C) (old new : Rank C) (log after : List Entry) (from : ℕ) (batch : List Letter) (same : IsSameRank old new) (gained : after ≡ log ++ Took from batch ∷ [])
-    (all : AllByRecursion (IsFor old.here) batch) where
-  pub arrived_now : arrived old.here after ≡ arrived old.here log ++ batch
-  arrived_now = ap (arrived old.here) gained ∙ arrived-took old.here log from batch ∙ ap (λ xs. arrived old.here log ++ xs) (for_all old.here batch all)
+module _ {C : Type 0} (apply : Applies C) (old new : Rank C) (log after : List Entry) (from : ℕ) (batch run : List Letter) (same : IsSameRank old new) (gained : after ≡ log ++ Took from batch ∷ [])
+    (brings : Brings old.here batch run) where
+  pub arrived_now : arrived old.here after ≡ arrived old.here log ++ run
+  arrived_now = ap (arrived old.here) gained ∙ arrived-took old.here log from batch ∙ ap (λ xs. arrived old.here log ++ xs) brings.for_here
 
-  pub arrived_there : arrived new.here after ≡ arrived old.here log ++ batch
+  pub arrived_there : arrived new.here after ≡ arrived old.here log ++ run
   arrived_there = ap (λ h. arrived h after) same.here ∙ arrived_now
 
   sent_more : (given : List Letter) → Gains (held_letters old) (held_letters new) given → (to : ℕ) → sent_to new after to ≡ sent_to old log to ++ of_pair old.here to given
@@ -102,22 +103,22 @@ module _ {C : Type 0} (apply : Applies C) (old new : Rank C) (log after : List E
       ∙ ap (λ xs. pair_put old.here to log ++ xs) (gains.pairs old.here to)
       ∙ sym (append_assoc (pair_put old.here to log) (of_pair old.here to (held_letters old)) (of_pair old.here to given))
 
-  one_taken : for_rank old.here (letters_taken (Took from batch ∷ [])) ≡ batch
-  one_taken = ap (for_rank old.here) (append-nil batch) ∙ for_all old.here batch all
+  one_taken : for_rank old.here (letters_taken (Took from batch ∷ [])) ≡ run
+  one_taken = ap (for_rank old.here) (append-nil batch) ∙ brings.for_here
 
   ran_old : old.waiting ≡ [] → arrived old.here log ≡ ran_at old log
   ran_old none = sym (ran_all old log none)
 
-  pub advanced : old.waiting ≡ [] → new.waiting ≡ [] → HasRunAll apply old new batch → Advanced apply old new log after batch
+  pub advanced : old.waiting ≡ [] → new.waiting ≡ [] → HasRunAll apply old new run → Advanced apply old new log after run
   advanced before none ran = record {
-    ran = ran_all new after none ∙ arrived_there ∙ ap (λ xs. xs ++ batch) (ran_old before);
+    ran = ran_all new after none ∙ arrived_there ∙ ap (λ xs. xs ++ run) (ran_old before);
     contents = ran.contents;
-    sent = sent_more (handed apply old batch) ran.held;
+    sent = sent_more (handed apply old run) ran.held;
     run_count = ran.run_count;
     sent_count = ran.sent_count;
   }
 
-  pub took_from : old.waiting ≡ [] → new.waiting ≡ [] → HasRunAll apply old new batch → TookFrom from apply old new log after 1
+  pub took_from : old.waiting ≡ [] → new.waiting ≡ [] → HasRunAll apply old new run → TookFrom from apply old new log after 1
   took_from before none ran = record {
     all = record {
       taken = Took from batch ∷ [];
@@ -130,15 +131,15 @@ module _ {C : Type 0} (apply : Applies C) (old new : Rank C) (log after : List E
     one = omega arith;
   }
 
-  ran_some : old.waiting ≡ [] → (run : List Letter) → batch ≡ run ++ new.waiting → ran_at new after ≡ ran_at old log ++ run
-  ran_some before run waits =
-      ran_is new after (ran_at old log ++ run) new.waiting
-      (arrived_there ∙ ap (λ xs. xs ++ batch) (ran_old before) ∙ ap (λ xs. ran_at old log ++ xs) waits ∙ sym (append_assoc (ran_at old log) run new.waiting))
-      (for_all new.here new.waiting (rest_for new.here old.here batch run new.waiting waits same.here all))
+  ran_some : old.waiting ≡ [] → (part : List Letter) → run ≡ part ++ new.waiting → ran_at new after ≡ ran_at old log ++ part
+  ran_some before part waits =
+      ran_is new after (ran_at old log ++ part) new.waiting
+      (arrived_there ∙ ap (λ xs. xs ++ run) (ran_old before) ∙ ap (λ xs. ran_at old log ++ xs) waits ∙ sym (append_assoc (ran_at old log) part new.waiting))
+      (for_all new.here new.waiting (rest_for new.here old.here run part new.waiting waits same.here brings.all_for))
 
-  cut_at : old.waiting ≡ [] → (fault : CommFault) → StuckIn apply old new batch fault → CutFrom from apply old new log after
+  cut_at : old.waiting ≡ [] → (fault : CommFault) → StuckIn apply old new run fault → CutFrom from apply old new log after
   cut_at before fault stuck =
-      let rest : AllByRecursion (IsFor new.here) new.waiting = rest_for new.here old.here batch stuck.run new.waiting stuck.waits same.here all in
+      let rest : AllByRecursion (IsFor new.here) new.waiting = rest_for new.here old.here run stuck.run new.waiting stuck.waits same.here brings.all_for in
       let rest_there : for_rank old.here new.waiting ≡ new.waiting = for_all old.here new.waiting (subst (λ h. AllByRecursion (IsFor h) new.waiting) same.here rest) in
       record {
         cut = record {
@@ -159,7 +160,7 @@ module _ {C : Type 0} (apply : Applies C) (old new : Rank C) (log after : List E
         one = omega arith;
       }
 
-  pub cut_from : old.waiting ≡ [] → (fault : CommFault) → StuckIn apply old new batch fault → WasCutFrom from apply old new log after fault
+  pub cut_from : old.waiting ≡ [] → (fault : CommFault) → StuckIn apply old new run fault → WasCutFrom from apply old new log after fault
   cut_from before fault stuck = record {
     cut_from = cut_at before fault stuck;
     full_at_first = if_full fault (λ _ full. record { run = stuck.run; ran = ran_some before stuck.run stuck.waits; full = full }) stuck.full_at_first;
@@ -167,16 +168,16 @@ module _ {C : Type 0} (apply : Applies C) (old new : Rank C) (log after : List E
   }
 
   module _ (start : C → C) (keeps : (c : C) (here ranks : ℕ) (l : Letter) → start (apply c here ranks l).0 ≡ start c) (agrees : Agrees apply start old log) where
-    pub agrees_now : new.waiting ≡ [] → HasRunAll apply old new batch → IsModest (local_of old after) → Agrees apply start new after
+    pub agrees_now : new.waiting ≡ [] → HasRunAll apply old new run → IsModest (local_of old after) → Agrees apply start new after
     agrees_now none ran modest =
         let adv = advanced agrees.nothing_waits none ran in
         let here = old.here in
         let n = old.layout.ranks in
-        let started : start new.contents ≡ start old.contents = ap start ran.contents ∙ start_fold apply start keeps here n old.contents batch in
-        let given = handed apply old batch in
+        let started : start new.contents ≡ start old.contents = ap start ran.contents ∙ start_fold apply start keeps here n old.contents run in
+        let given = handed apply old run in
         let at_start : handed_from apply here n (start old.contents) (ran_at new after) ≡ handed_from apply here n (start old.contents) (ran_at old log) ++ given =
-        ap (handed_from apply here n (start old.contents)) adv.ran ∙ handed-append apply here n (start old.contents) (ran_at old log) batch
-        ∙ ap (λ c. handed_from apply here n (start old.contents) (ran_at old log) ++ handed_from apply here n c batch) (sym agrees.contents) in
+        ap (handed_from apply here n (start old.contents)) adv.ran ∙ handed-append apply here n (start old.contents) (ran_at old log) run
+        ∙ ap (λ c. handed_from apply here n (start old.contents) (ran_at old log) ++ handed_from apply here n c run) (sym agrees.contents) in
         let place : (h m : ℕ) (c : C) → h ≡ here → m ≡ n → c ≡ start old.contents → handed_from apply h m c (ran_at new after) ≡ handed_from apply here n (start old.contents) (ran_at new after) =
         λ h m c a b d. ap (λ x. handed_from apply x m c (ran_at new after)) a ∙ ap (λ x. handed_from apply here x c (ran_at new after)) b ∙ ap (λ x. handed_from apply here n x (ran_at new after)) d in
         let ranks : new.layout.ranks ≡ n = ap (λ (s : Shape). s.ranks) same.layout in
@@ -185,15 +186,25 @@ module _ {C : Type 0} (apply : Applies C) (old new : Rank C) (log after : List E
           forwards = λ f to ne.
               let other : f ≢ here = λ e. ne (e ∙ sym same.here) in
               ran.held.pairs f to ∙ ap (λ xs. of_pair f to (held_letters old) ++ xs) (none_of_others here f to given other ran.lawful) ∙ append-nil (of_pair f to (held_letters old))
-              ∙ agrees.forwards f to other ∙ sym (forward_same (local_of old log) from batch all f to)
+              ∙ agrees.forwards f to other ∙ sym (forward_same (local_of old log) from batch brings.others f to)
               ∙ ap (λ (me : Local). to_forward me f to) (ap (local_of old) (sym gained) ∙ local_is old new after same);
           sent_count =
-              let put : length (own new.here after) ≡ length (own here log) = ap (λ h. length (own h after)) same.here ∙ ap (λ xs. length (own here xs)) gained ∙ ap length (own-took here log from batch) in
-              let held : length (of_sender new.here (held_letters new)) ≡ length (of_sender here (held_letters new)) = ap (λ h. length (of_sender h (held_letters new))) same.here in
-              omega (arith, put, held, ran.sent_count, agrees.sent_count, ran.held.senders here, ap length (own_all here given ran.lawful));
-          run_count = omega (arith, ran.run_count, agrees.run_count, ap length adv.ran, length-append (ran_at old log) batch);
+              let put : own_count new.here after ≡ own_count here log = ap (λ h. own_count h after) same.here ∙ ap (own_count here) gained ∙ own_count-took here log from batch in
+              let held : sent_number new.here (held_letters new) ≡ sent_number here (held_letters new) = ap (λ h. sent_number h (held_letters new)) same.here in
+              omega (
+                arith,
+                put,
+                held,
+                ran.sent_count,
+                agrees.sent_count,
+                ran.held.senders here,
+                ap length (own_all here given ran.lawful),
+                sent_number-is here (held_letters old),
+                sent_number-is here (held_letters new),
+              );
+          run_count = omega (arith, ran.run_count, agrees.run_count, ap length adv.ran, length-append (ran_at old log) run);
           contents =
-              ran.contents ∙ ap (λ c. fold_from apply here n c batch) agrees.contents ∙ sym (fold-append apply here n (start old.contents) (ran_at old log) batch)
+              ran.contents ∙ ap (λ c. fold_from apply here n c run) agrees.contents ∙ sym (fold-append apply here n (start old.contents) (ran_at old log) run)
               ∙ ap (fold_from apply here n (start old.contents)) (sym adv.ran)
               ∙ ap (λ c. fold_from apply here n c (ran_at new after)) (sym started)
               ∙ ap (λ m. fold_from apply here m (start new.contents) (ran_at new after)) (sym ranks)
@@ -208,6 +219,7 @@ module _ {C : Type 0} (apply : Applies C) (old new : Rank C) (log after : List E
               let Q : List Letter → Type 0 = λ xs. IsSublist (of_pair here to (handed_from apply here n (start old.contents) (ran_at old log)) ++ of_pair here to given) xs in
               subst P (sym gave) (subst Q (sym (adv.sent to)) (sublist_append (of_pair here to given) (agrees.given_is_sent to)));
           modest = subst IsModest (local_is old new after same) modest;
+          data_alone = subst (AllByRecursion (λ l. IsTrue (is_data l))) (sym (ap letters_put gained ∙ letters_put-took log from batch)) agrees.data_alone;
         }
 
 -- no batch was there
@@ -231,7 +243,7 @@ took_none {C} from apply me log after is none =
 pub record Arrival {C : Type 0} (old : Rank C) (before state : PostState) (from : ℕ) (batch : List Letter) : Type 0 where
   pub gained : state.log old.here ≡ before.log old.here ++ Took from batch ∷ []
   pub modest : IsModest (local_of old (state.log old.here))
-  pub all : AllByRecursion (IsFor old.here) batch
+  pub brings : Brings old.here batch (for_handlers batch)
 
 pub arrival : {C : Type 0} (apply : Applies C) (start : C → C) (old : Rank C) (there : ℕ) (before state : PostState) (from : ℕ) (batch : List Letter) → there ≡ old.here → SamePost there before state →
     Belongs apply start old before → old.scheme ≡ Direct → from < old.layout.ranks → TookBatch there from batch before state → Arrival old before state from batch
@@ -244,15 +256,25 @@ arrival {C} apply start old there before state from batch here same belongs dire
     record {
       gained = gained;
       modest = at_old;
-      all = batch_for (local_of old (before.log old.here)) from batch (omega (arith, sender)) direct (subst N gained at_old);
+      brings = brings (local_of old (before.log old.here)) from batch (omega (arith, sender)) direct (subst N gained at_old);
     }
 
 pub few_run : {C : Type 0} (apply : Applies C) (start : C → C) (old : Rank C) (before state : PostState) (from : ℕ) (batch : List Letter) → Arrival old before state from batch →
-    Agrees apply start old (before.log old.here) → old.run_count + length batch ≤ most_arrived
+    Agrees apply start old (before.log old.here) → old.run_count + length (for_handlers batch) ≤ most_arrived
 few_run apply start old before state from batch a agrees =
-    let there : arrived old.here (state.log old.here) ≡ arrived old.here (before.log old.here) ++ batch =
-    ap (arrived old.here) a.gained ∙ arrived-took old.here (before.log old.here) from batch ∙ ap (λ xs. arrived old.here (before.log old.here) ++ xs) (for_all old.here batch a.all) in
-    omega (arith, agrees.run_count, ap length (ran_all old (before.log old.here) agrees.nothing_waits), ap length there, length-append (arrived old.here (before.log old.here)) batch, a.modest.few)
+    let log = before.log old.here in
+    let now = state.log old.here in
+    let there : arrived old.here now ≡ arrived old.here log ++ for_handlers batch =
+    ap (arrived old.here) a.gained ∙ arrived-took old.here log from batch ∙ ap (λ xs. arrived old.here log ++ xs) a.brings.for_here in
+    omega (
+      arith,
+      agrees.run_count,
+      ap length (ran_all old log agrees.nothing_waits),
+      ap length there,
+      length-append (arrived old.here log) (for_handlers batch),
+      a.modest.few,
+      run_number-is old.here (letters_taken now),
+    )
 
 pub waiting_for : {C : Type 0} (was old : Rank C) (batch waiting : List Letter) → was ≡ old → waiting ≡ batch → AllByRecursion (IsFor old.here) batch → AllByRecursion (IsFor was.here) waiting
 waiting_for {C} was old batch waiting e f all =

@@ -1,10 +1,11 @@
 -- What a log has after it gained a take, and what ran then.
-use Rattle.std.proofs.Common.{◌≡◌, ◌≢◌, ℕ, suc, ◌-◌, ◌<◌, Bool, true, false, ◌&&◌, not, nat_eq, eqb-true, eq-eqb, List, [], ◌∷◌, ◌++◌, length, take, drop, refl, sym, ap, ◌∙◌, subst, arith, append-nil, length-append, if◌then◌else◌}
+use Rattle.std.proofs.Common.{◌≡◌, ◌≢◌, ℕ, suc, ◌-◌, ◌<◌, Bool, true, false, ◌&&◌, not, nat_eq, eqb-true, eq-eqb, ltb-true, List, [], ◌∷◌, ◌++◌, length, take, drop, refl, sym, ap, ◌∙◌, subst, inl, inr, arith, append-nil, length-append, if◌then◌else◌}
 use Rattle.std.specs.Bool.{IsTrue}
 use Rattle.std.specs.List.{AllByRecursion}
 use Rattle.std.proofs.Math.Seq.{take-append_seam}
-use Rattle.std.proofs.lemmas.Bool.{false_from_ne_true}
+use Rattle.std.proofs.lemmas.Bool.{false_from_ne_true, or_cases}
 use Rattle.std.proofs.lemmas.List.Elements.{filter-append}
+use Rattle.msg_codec.specs.Control.{is_control, is_count, is_total}
 use Rattle.msg_codec.specs.declared.letter.Letter.{Letter}
 use Rattle.ygm_route.specs.declared.scheme.Scheme.{Scheme}
 use Rattle.ygm_route.specs.declared.scheme.Scheme.TheVariants.{Direct}
@@ -17,17 +18,18 @@ use Rattle.world_core.specs.declared.entry.Entry.{Entry}
 use Rattle.world_core.specs.declared.entry.Entry.TheVariants.{Took}
 use Rattle.world_core.specs.Local.{Local, to_forward, is_rank}
 use Rattle.world_core.specs.Log.{letters_taken}
-use Rattle.world_core.specs.Modest.{IsModest}
-use Rattle.world_core.specs.Pairs.{arrived, for_rank, is_data, is_of_pair, of_pair, of_sender, own, pair_put, pair_taken}
+use Rattle.world_core.specs.Modest.{IsLawful, IsModest}
+use Rattle.world_core.specs.Pairs.{arrived, for_rank, is_data, is_of_pair, of_pair, of_sender, pair_put, pair_taken}
 use Rattle.world_core.specs.Sound.{IsOnPath}
 use Rattle.world_core.proofs.Pairs.Appended.{pair_put-took, pair_taken-took}
-use Rattle.world_core.proofs.Log.Appended.{letters_put-took, letters_taken-took}
-use Rattle.list_facts.proofs.Elements.{all_second, all_weaker}
+use Rattle.world_core.proofs.Log.Appended.{letters_taken-took}
+use Rattle.world_core.proofs.Modest.Lawful.{batch_kind, lawful_batch}
+use Rattle.list_facts.proofs.Elements.{all_second, all_weaker, both_of}
 use Rattle.list_facts.proofs.Filters.{filter_none}
 use Rattle.list_facts.proofs.Tests.{and_first, and_second}
 use Rattle.world_core.proofs.Log.ByLink.{all_taken}
 use Rattle.comm_rank.specs.Rank.{Rank, ran_at}
-use Rattle.comm_rank.specs.Running.{IsFor, IsOf}
+use Rattle.comm_rank.specs.Running.{IsFor, IsOf, for_handlers}
 
 -- ---- letters for a rank, and from it
 
@@ -60,22 +62,32 @@ none_to_others here from to xs ne all =
 pub arrived-took : (here : ℕ) (log : List Entry) (from : ℕ) (batch : List Letter) → arrived here (log ++ Took from batch ∷ []) ≡ arrived here log ++ for_rank here batch
 arrived-took here log from batch = ap (for_rank here) (letters_taken-took log from batch) ∙ filter-append _ (letters_taken log) batch
 
-pub own-took : (here : ℕ) (log : List Entry) (from : ℕ) (batch : List Letter) → own here (log ++ Took from batch ∷ []) ≡ own here log
-own-took here log from batch = ap (of_sender here) (letters_put-took log from batch)
+-- A batch brings a rank these letters to run, and none for others.
+pub record Brings (here : ℕ) (batch run : List Letter) : Type 0 where
+  pub for_here : for_rank here batch ≡ run
+  pub all_for : AllByRecursion (IsFor here) run
+  pub others : (s d : ℕ) → here ≢ d → of_pair s d batch ≡ []
 
--- what there is to forward, where all that a rank takes is for it
+brings_all : (here : ℕ) (batch : List Letter) → AllByRecursion (IsFor here) batch → Brings here batch batch
+brings_all here batch all = record { for_here = for_all here batch all; all_for = all; others = λ s d apart. none_to_others here s d batch apart all }
+
+-- a letter that isn't a data letter is for no handler
+brings_none : (here : ℕ) (l : Letter) → is_data l ≡ false → Brings here (l ∷ []) []
+brings_none here l none = record { for_here = rw none refl; all_for = tt; others = λ s d apart. rw none refl }
+
+-- what there is to forward, where nothing that a rank takes is for others
 forward_if : (b : Bool) (xs ys : List Letter) → (b ≡ true → xs ≡ ys) → (if b then xs else []) ≡ (if b then ys else [])
 forward_if true xs ys h = h refl
 forward_if false xs ys h = refl
 
-pub forward_same : (me : Local) (from : ℕ) (batch : List Letter) → AllByRecursion (IsFor me.here) batch → (s d : ℕ) →
+pub forward_same : (me : Local) (from : ℕ) (batch : List Letter) → ((s d : ℕ) → me.here ≢ d → of_pair s d batch ≡ []) → (s d : ℕ) →
     to_forward (record me { log = me.log ++ Took from batch ∷ [] }) s d ≡ to_forward me s d
 unfolding to_forward
-forward_same me from batch all s d =
-    forward_if (is_rank me.layout s && is_rank me.layout d && not (nat_eq me.here d)) _ _ (λ b.
-    let apart : me.here ≢ d = λ e. absurd (let yes : nat_eq me.here d ≡ true = eq-eqb me.here d e in let no : not (nat_eq me.here d) ≡ true = and_second (is_rank me.layout s && is_rank me.layout d) (not (nat_eq me.here d)) b in let both : not true ≡ true = ap not (sym yes) ∙ no in cc) in
+forward_same me from batch none s d =
+    forward_if (is_rank me.layout s && is_rank me.layout d && not (nat_eq me.here s) && not (nat_eq me.here d)) _ _ (λ b.
+    let apart : me.here ≢ d = λ e. absurd (let yes : nat_eq me.here d ≡ true = eq-eqb me.here d e in let no : not (nat_eq me.here d) ≡ true = and_second (is_rank me.layout s && is_rank me.layout d && not (nat_eq me.here s)) (not (nat_eq me.here d)) b in let both : not true ≡ true = ap not (sym yes) ∙ no in cc) in
     ap (λ xs. drop (length xs) (pair_taken s d (me.log ++ Took from batch ∷ []))) (pair_put-took s d me.log from batch)
-    ∙ ap (drop (length (pair_put s d me.log))) (pair_taken-took s d me.log from batch ∙ ap (λ xs. pair_taken s d me.log ++ xs) (none_to_others me.here s d batch apart all) ∙ append-nil (pair_taken s d me.log)))
+    ∙ ap (drop (length (pair_put s d me.log))) (pair_taken-took s d me.log from batch ∙ ap (λ xs. pair_taken s d me.log ++ xs) (none s d apart) ∙ append-nil (pair_taken s d me.log)))
 
 -- ---- letters go straight to their destination
 
@@ -103,22 +115,48 @@ crossed_from layout s d a b some h =
     let Q : List ℕ → Type 0 = λ xs. IsTrue (crosses (s ∷ xs) a b) in
     (link_of_two a b s d (subst Q (path_direct layout s d (layout.ranks - 1)) at)).0
 
-both : (P Q : Letter → Type 0) (xs : List Letter) → AllByRecursion P xs → AllByRecursion Q xs → AllByRecursion (λ l. P l × Q l) xs
-both P Q [] h k = tt
-both P Q (x ∷ xs) h k = ((h.0, k.0), both P Q xs h.1 k.1)
+-- ---- what a modest log took last
 
--- what a modest log took last is for the rank
-pub batch_for : (me : Local) (from : ℕ) (batch : List Letter) → 0 < me.layout.ranks → me.scheme ≡ Direct → IsModest (record me { log = me.log ++ Took from batch ∷ [] }) → AllByRecursion (IsFor me.here) batch
-batch_for me from batch some direct modest =
-    let log = me.log ++ Took from batch ∷ [] in
-    let R : Letter → Type 0 = λ l. IsTrue (is_data l) → l.to ≡ me.here in
-    let straight : AllByRecursion R (letters_taken log) =
-    all_taken R log (λ rank. all_weaker (IsOnPath me.layout me.scheme rank me.here) R _
-    (λ l on tag. crossed_direct me.layout l.from l.to rank me.here some (let S : Scheme → Type 0 = λ scheme. IsTrue (crosses (path me.layout scheme l.from l.to) rank me.here) in subst S direct (on tag)))
-    (modest.on_path rank)) in
-    let all : AllByRecursion (IsFor me.here) (letters_taken log) =
-    all_weaker _ (IsFor me.here) (letters_taken log) (λ l h. record { destination = h.1 h.0.tag; tag = h.0.tag }) (both _ R _ modest.lawful straight) in
-    all_second (IsFor me.here) (letters_taken me.log) batch (subst (AllByRecursion (IsFor me.here)) (letters_taken-took me.log from batch) all)
+control_tag : (l : Letter) → is_control l ≡ true → is_data l ≡ false
+control_tag l h = false_from_ne_true (is_data l) (λ yes.
+    let below : l.tag < 240 = ltb-true l.tag 240 yes in
+    elim (or_cases (is_count l) (is_total l) h) [
+      | inl count ↦ absurd (omega (arith, below, eqb-true l.tag 240 (and_first _ _ count)))
+      | inr total ↦ absurd (omega (arith, below, eqb-true l.tag 241 (and_first _ _ total)))
+    ])
+
+data_first : (letters : List Letter) → AllByRecursion (λ l. is_data l ≡ true) letters → for_handlers letters ≡ letters
+data_first [] h = refl
+data_first (l ∷ letters) h = rw h.0 refl
+
+module _ (me : Local) (from : ℕ) (batch : List Letter) (some : 0 < me.layout.ranks) (direct : me.scheme ≡ Direct) (modest : IsModest (record me { log = me.log ++ Took from batch ∷ [] })) where
+  abbrev now : Local
+  now = record me { log = me.log ++ Took from batch ∷ [] }
+
+  -- its data letters are for the rank
+  straight : AllByRecursion (λ (l : Letter). IsTrue (is_data l) → l.to ≡ me.here) batch
+  straight =
+      let R : Letter → Type 0 = λ l. IsTrue (is_data l) → l.to ≡ me.here in
+      let all : AllByRecursion R (letters_taken now.log) =
+      all_taken R now.log (λ rank. all_weaker (IsOnPath me.layout me.scheme rank me.here) R _
+      (λ l on tag. crossed_direct me.layout l.from l.to rank me.here some (let S : Scheme → Type 0 = λ scheme. IsTrue (crosses (path me.layout scheme l.from l.to) rank me.here) in subst S direct (on tag)))
+      (modest.on_path rank)) in
+      all_second R (letters_taken me.log) batch (subst (AllByRecursion R) (letters_taken-took me.log from batch) all)
+
+  pub brings : Brings me.here batch (for_handlers batch)
+  brings =
+      let lawful : IsLawful now (Took from batch) = (all_second (IsLawful now) me.log (Took from batch ∷ []) modest.lawful).0 in
+      elim (batch_kind now from batch (lawful_batch now from batch lawful)) [
+        | inl all ↦
+            let each : AllByRecursion (IsFor me.here) batch =
+            both_of (λ l. is_data l ≡ true) (λ l. IsTrue (is_data l) → l.to ≡ me.here) (IsFor me.here) batch (λ l tag to. record { destination = to tag; tag = tag }) all straight in
+            subst (Brings me.here batch) (sym (data_first batch all)) (brings_all me.here batch each)
+        | inr one ↦
+            let none : is_data one.letter ≡ false = control_tag one.letter one.control in
+            let P : List Letter → Type 0 = λ b. Brings me.here b (for_handlers b) in
+            let alone : for_handlers (one.letter ∷ []) ≡ [] = rw none refl in
+            subst P (sym one.alone) (subst (Brings me.here (one.letter ∷ [])) (sym alone) (brings_none me.here one.letter none))
+      ]
 
 -- ---- what ran
 

@@ -57,15 +57,14 @@ module _ (me : Local) (direct : me.scheme ≡ Direct) (modest : IsModest me) whe
   pub nothing_to_forward : (s d : ℕ) → to_forward me s d ≡ []
   unfolding to_forward
   nothing_to_forward s d = elim (cases_eq d me.here) [
-    | inl e ↦ kept (is_rank me.layout s) (is_rank me.layout d) (nat_eq me.here d) (eq-eqb me.here d (sym e))
-    | inr other ↦ none (is_rank me.layout s && is_rank me.layout d && not (nat_eq me.here d)) (none_taken s d other)
+    | inl e ↦ kept (is_rank me.layout s && is_rank me.layout d && not (nat_eq me.here s)) (nat_eq me.here d) (eq-eqb me.here d (sym e))
+    | inr other ↦ none (is_rank me.layout s && is_rank me.layout d && not (nat_eq me.here s) && not (nat_eq me.here d)) (none_taken s d other)
   ]
     where
-      kept : (a b c : Bool) → c ≡ true → (if a && b && not c then drop (length (pair_put s d me.log)) (pair_taken s d me.log) else []) ≡ []
-      kept true true true h = refl
-      kept true true false h = absurd cc
-      kept true false c h = refl
-      kept false b c h = refl
+      kept : (a b : Bool) → b ≡ true → (if a && not b then drop (length (pair_put s d me.log)) (pair_taken s d me.log) else []) ≡ []
+      kept true true h = refl
+      kept true false h = absurd cc
+      kept false b h = refl
 
       dropped : (n : ℕ) → drop n (let none : List Letter = [] in none) ≡ []
       dropped zero = refl

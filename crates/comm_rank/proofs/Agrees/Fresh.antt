@@ -1,13 +1,16 @@
 -- A rank that has sent and run nothing agrees with an empty log.
-use Rattle.std.proofs.Common.{◌≡◌, ℕ, zero, suc, [], length, replicate, refl, sym, ap, ◌∙◌, arith}
+use Rattle.std.proofs.Common.{◌≡◌, ℕ, zero, suc, [], replicate, refl, sym, ap, ◌∙◌, arith}
 use Rattle.ygm_route.specs.declared.scheme.Scheme.{Scheme}
 use Rattle.ygm_route.specs.declared.scheme.Scheme.TheVariants.{Direct}
 use Rattle.ygm_route.specs.Layout.{Shape}
-use Rattle.world_core.specs.Local.{Local}
+use Rattle.world_core.specs.Local.{Local, local_rank}
 use Rattle.world_core.specs.Log.{letters_of}
-use Rattle.world_core.specs.Modest.{IsModest}
-use Rattle.world_core.specs.Pairs.{of_pair, of_sender}
+use Rattle.world_core.specs.Counts.{count_taken}
+use Rattle.world_core.specs.Modest.{AreInTurn, IsModest}
+use Rattle.world_core.specs.Pairs.{of_pair, sent_number}
+use Rattle.world_core.proofs.Pairs.Numbers.{run_number-nil, sent_number-nil}
 use Rattle.list_facts.proofs.Sublist.{sublist_nil}
+use Rattle.list_facts.proofs.Sums.{sum_upto-zero}
 use Rattle.comm_rank.specs.Agrees.{Agrees}
 use Rattle.comm_rank.specs.Fold.{Applies}
 use Rattle.comm_rank.specs.Rank.{fresh_rank}
@@ -17,18 +20,30 @@ pub no_letters : (n : ℕ) → letters_of (replicate n []) ≡ []
 no_letters zero = refl
 no_letters (suc n) = no_letters n
 
+-- an empty log took no control letters
+in_turn_fresh : (layout : Shape) (scheme : Scheme) (here : ℕ) → AreInTurn (local_rank layout scheme here [])
+unfolding count_taken
+in_turn_fresh layout scheme here = record {
+  few_sent = λ q. omega (arith, sum_upto-zero layout.ranks);
+  few_run = λ q. omega (arith, sum_upto-zero layout.ranks);
+  counts_in_order = λ from. tt;
+  totals_in_order = λ from. tt;
+  in_turn = λ k from letters h. absurd cc;
+}
+
 pub agrees_fresh : {C : Type 0} (apply : Applies C) (start : C → C) (layout : Shape) (scheme : Scheme) (here most : ℕ) (contents : C) → scheme ≡ Direct → start contents ≡ contents →
     Agrees apply start (fresh_rank layout scheme here most contents) []
 agrees_fresh apply start layout scheme here most contents direct fresh =
     let none : letters_of (replicate layout.ranks []) ≡ [] = no_letters layout.ranks in
-    let me : Local = record { layout = layout; scheme = scheme; here = here; log = [] } in
-    let modest : IsModest me = record { few = omega arith; lawful = tt; on_path = λ from. tt } in
+    let me : Local = local_rank layout scheme here [] in
+    let modest : IsModest me = record { few = omega (arith, run_number-nil here); lawful = tt; on_path = λ from. tt; control = in_turn_fresh layout scheme here } in
     record {
       nothing_waits = refl;
       forwards = λ from to other. ap (of_pair from to) none ∙ sym (nothing_to_forward me direct modest from to);
-      sent_count = omega (arith, ap (λ xs. length (of_sender here xs)) none);
+      sent_count = omega (arith, ap (sent_number here) none, sent_number-nil here);
       run_count = refl;
       contents = sym fresh;
       given_is_sent = λ to. sublist_nil _;
       modest = modest;
+      data_alone = tt;
     }

@@ -1,32 +1,40 @@
 -- A put of an own letter that goes straight to its destination.
-use Rattle.std.proofs.Common.{◌≡◌, ◌≢◌, ℕ, ◌+◌, ◌<◌, Bool, true, false, not, ◌||◌, ◌&&◌, nat_eq, lt-ltb, eq-eqb, ◌==◌, None, Err, List, [], ◌∷◌, ◌++◌, length, set, refl, sym, ap, ◌∙◌, subst, append-nil, append_assoc, arith, length-append, inl, inr}
+use Rattle.std.proofs.Common.{◌≡◌, ◌≢◌, ℕ, ◌+◌, ◌<◌, Bool, true, false, not, ◌||◌, ◌&&◌, nat_eq, nat_lt, lt-ltb, ltb-true, le-ltb, eq-eqb, ne_eqb, None, Err, List, [], ◌∷◌, ◌++◌, length, set, refl, sym, ap, ◌∙◌, subst, append-nil, append_assoc, arith, inl, inr}
 use Rattle.std.specs.Bool.{IsTrue}
+use Rattle.std.specs.List.{AllByRecursion, list_any}
 use Rattle.std.proofs.lemmas.Bool.{cases_eq}
 use Rattle.std.proofs.lemmas.List.{set-set, set-get_or}
+use Rattle.msg_codec.specs.Control.{is_count, is_total}
 use Rattle.msg_codec.specs.declared.letter.Letter.{Letter}
 use Rattle.ygm_route.specs.declared.scheme.Scheme.{Scheme}
 use Rattle.ygm_route.specs.declared.scheme.Scheme.TheVariants.{Direct}
 use Rattle.ygm_route.specs.Hop.{hop}
 use Rattle.ygm_route.proofs.Hop.Cases.{hop-direct}
 use Rattle.world_core.specs.declared.entry.Entry.{Entry}
-use Rattle.world_core.specs.declared.entry.Entry.TheVariants.{Put}
+use Rattle.world_core.specs.declared.entry.Entry.TheVariants.{Put, Took}
+use Rattle.world_core.specs.ControlRules.{sent_while_counted, wrong_control, count_early, count_unforwarded, count_wrong, total_early, total_wrong}
+use Rattle.world_core.specs.Counts.{counts}
 use Rattle.world_core.specs.Limits.{most_letters}
 use Rattle.world_core.specs.Local.{Local, having_put}
-use Rattle.world_core.specs.Log.{letters_of}
-use Rattle.world_core.specs.Pairs.{is_data, is_of_pair, of_pair, of_sender, own, pair_put, sent}
+use Rattle.world_core.specs.Log.{letters_of, letters_put}
+use Rattle.world_core.specs.Pairs.{is_data, is_of_pair, of_pair, of_sender, own_count, pair_put, sent, sent_number}
 use Rattle.world_core.specs.Post.{CountsNeverFall, FullsRise, IfFull, IfNoMemory, PutKeeps, SameFulls, SamePost, PostState, local_at}
 use Rattle.world_core.specs.declared.post.PutBack.{PutBack}
 use Rattle.world_core.specs.declared.post.PutBack.TheVariants.{Full, NoMemory}
 use Rattle.world_core.specs.Rising.{Rose}
-use Rattle.world_core.specs.Rules.{first_broken, bad_tag, wrong_hop, not_held, too_many_sent, IsHonest}
+use Rattle.world_core.specs.Rounds.{barrier_start}
+use Rattle.world_core.specs.Rules.{Deed, first_broken, no_such_rank, mixed_control, some_letter, bad_tag, wrong_hop, not_held, too_many_sent, IsHonest}
 use Rattle.world_core.specs.Rules.Deed.{Puts}
+use Rattle.world_core.proofs.Counts.AfterPut.{own_count-empty, sent_while_counted-put}
 use Rattle.world_core.proofs.Deeds.Honest.{honest_more}
-use Rattle.world_core.proofs.Pairs.Appended.{pair_put-put, own-put}
-use Rattle.list_facts.proofs.Elements.{all_append}
+use Rattle.world_core.proofs.Pairs.Appended.{pair_put-put}
+use Rattle.world_core.proofs.Pairs.Numbers.{own_count-put, sent_number-is}
+use Rattle.list_facts.proofs.Elements.{all_append, all_first, all_second, all_weaker}
+use Rattle.list_facts.proofs.Tests.{none_any}
+use Rattle.comm_rank.proofs.Agrees.AfterPuts.{data_put}
 use Rattle.comm_rank.proofs.Rank.Same.{same_then}
 use Rattle.world_core.proofs.Posts.CountsNeverFall.{never_fall_refl, never_fall_trans}
-use Rattle.world_core.proofs.Deeds.EachLetter.{hop_right, held_own, not_too_many}
-use Rattle.world_core.proofs.Deeds.Table.{table}
+use Rattle.world_core.proofs.Deeds.EachLetter.{hop_right, held_own}
 use Rattle.comm_rank.specs.Held.{NoneClosed, held_for}
 use Rattle.comm_rank.specs.Moves.{MayPut, Moved, MoveKeeps, PutsOne, put_count}
 use Rattle.comm_rank.specs.Store.{IsHeldFor, Loses, OthersUnchanged}
@@ -41,28 +49,71 @@ ranks_hold true false c d _ h _ _ = absurd cc
 ranks_hold true true false d _ _ h _ = absurd cc
 ranks_hold true true true false _ _ _ h = absurd cc
 
+and_false : (b : Bool) → (b && false) ≡ false
+and_false true = refl
+and_false false = refl
+
 or_nothing : (b : Bool) → b ≡ false → (b || false) ≡ false
 or_nothing true h = h
 or_nothing false h = h
 
+-- a data letter is no control letter
+not_count : (l : Letter) → IsTrue (is_data l) → is_count l ≡ false
+not_count l tagged =
+    let below : l.tag < 240 = ltb-true l.tag 240 tagged in
+    let other : nat_eq l.tag 240 ≡ false = ne_eqb l.tag 240 (λ e. absurd (omega (arith, e, below))) in
+    rw other refl
+
+not_total : (l : Letter) → IsTrue (is_data l) → is_total l ≡ false
+not_total l tagged =
+    let below : l.tag < 240 = ltb-true l.tag 240 tagged in
+    let other : nat_eq l.tag 241 ≡ false = ne_eqb l.tag 241 (λ e. absurd (omega (arith, e, below))) in
+    rw other refl
+
+-- a rank that put data letters alone put no Count
+no_counts : (log : List Entry) → AllByRecursion (λ l. IsTrue (is_data l)) (letters_put log) → counts log ≡ 0
+no_counts [] all = refl
+no_counts (Took from batch ∷ log) all = no_counts log all
+no_counts (Put to batch ∷ log) all =
+    let none : list_any is_count batch ≡ false =
+    none_any is_count batch (all_weaker (λ l. IsTrue (is_data l)) (λ l. is_count l ≡ false) batch not_count (all_first (λ l. IsTrue (is_data l)) batch (letters_put log) all)) in
+    rw none (no_counts log (all_second (λ l. IsTrue (is_data l)) batch (letters_put log) all))
+
+-- and so it may put an own letter
+free_to_send : (me : Local) (to : ℕ) (l : Letter) → counts me.log ≡ 0 → sent_while_counted (having_put me to []) to l ≡ false
+free_to_send me to l none =
+    let not_counted : nat_lt (barrier_start me.here me.log) (counts me.log) ≡ false = le-ltb _ _ (omega (arith, none)) in
+    sent_while_counted-put me to [] refl l ∙ rw not_counted (and_false (is_data l && nat_eq l.from me.here))
+
 pub unbroken_put : (me : Local) (to : ℕ) (l : Letter) → me.here < me.layout.ranks → to < me.layout.ranks → me.scheme ≡ Direct →
-    l.to ≡ to → l.from ≡ me.here → IsTrue (is_data l) → length (own me.here me.log) < most_letters →
+    l.to ≡ to → l.from ≡ me.here → IsTrue (is_data l) → own_count me.here me.log < most_letters → counts me.log ≡ 0 →
     first_broken me (Puts to (l ∷ [])) ≡ None
-unbroken_put me to l here_within to_within direct is_to is_from tagged few =
+unfolding first_broken
+unbroken_put me to l here_within to_within direct is_to is_from tagged few none =
     let start : Local = having_put me to [] in
     let to_l : l.to < me.layout.ranks = omega (arith, is_to) in
     let from_l : l.from < me.layout.ranks = omega (arith, is_from) in
     let leads : to ≡ hop me.layout me.scheme me.here l.to =
     (let P : Scheme → Type 0 = λ scheme. to ≡ hop me.layout scheme me.here l.to in
     subst P (sym direct) (sym is_to ∙ sym (hop-direct me.layout me.here l.to))) in
-    let mine : (is_data l && nat_eq l.from me.here) ≡ true = (let e : nat_eq l.from me.here ≡ true = eq-eqb _ _ is_from in rw (tagged, e) refl) in
-    sym (table me to (l ∷ []) false false false false false false
-    (ranks_hold _ _ _ _ (lt-ltb _ _ here_within) (lt-ltb _ _ to_within) (lt-ltb _ _ to_l) (lt-ltb _ _ from_l))
-    refl
-    (or_nothing (bad_tag start to l) (rw tagged refl))
-    (or_nothing (wrong_hop start to l) (hop_right start to to l tagged leads refl))
-    (or_nothing (not_held start to l) (held_own start to l tagged is_from))
-    (or_nothing (too_many_sent start to l) (not_too_many me to [] l (length (own me.here me.log)) (omega arith) mine few)))
+    let count : is_count l ≡ false = not_count l tagged in
+    let total : is_total l ≡ false = not_total l tagged in
+    let room : nat_lt (own_count me.here start.log) most_letters ≡ true = lt-ltb _ _ (omega (arith, few, own_count-empty me.here me.log to)) in
+    let one : Deed = Puts to (l ∷ []) in
+    let ranks : no_such_rank me one ≡ false = ranks_hold _ _ _ _ (lt-ltb _ _ here_within) (lt-ltb _ _ to_within) (lt-ltb _ _ to_l) (lt-ltb _ _ from_l) in
+    let tag : some_letter bad_tag me one ≡ false = or_nothing (bad_tag start to l) (rw tagged refl) in
+    let unmixed : mixed_control me one ≡ false = rw (count, total) refl in
+    let hops : some_letter wrong_hop me one ≡ false = or_nothing (wrong_hop start to l) (hop_right start to to l tagged leads refl) in
+    let held : some_letter not_held me one ≡ false = or_nothing (not_held start to l) (held_own start to l tagged is_from) in
+    let not_many : some_letter too_many_sent me one ≡ false = or_nothing (too_many_sent start to l) (rw room (and_false (is_data l && nat_eq l.from me.here))) in
+    let free : some_letter sent_while_counted me one ≡ false = or_nothing (sent_while_counted start to l) (free_to_send me to l none) in
+    let control : some_letter wrong_control me one ≡ false = rw (count, total) refl in
+    let early : some_letter count_early me one ≡ false = rw count refl in
+    let unforwarded : some_letter count_unforwarded me one ≡ false = rw count refl in
+    let wrong : some_letter count_wrong me one ≡ false = rw count refl in
+    let total_first : some_letter total_early me one ≡ false = rw total refl in
+    let sums : some_letter total_wrong me one ≡ false = rw total refl in
+    rw (ranks, tag, unmixed, hops, held, not_many, free, control, early, unforwarded, wrong, total_first, sums) refl
 
 -- ---- it is the rank's own
 
@@ -89,10 +140,20 @@ may_put_one here to n before after state batch may within all one loses =
     let l = one.0 in
     let lost : Loses before after (l ∷ []) = subst (Loses before after) one.1 loses in
     let is_from : l.from ≡ here = own_letter here before after l may.own_alone lost one.2.tag in
-    let count : length (of_sender here (letters_of before)) ≡ 1 + length (of_sender here (letters_of after)) =
-    lost.senders here ∙ ap (λ xs. length xs + length (of_sender here (letters_of after))) (one_of_sender here l one.2.tag is_from) in
+    let count : sent_number here (letters_of before) ≡ 1 + sent_number here (letters_of after) =
+    omega (
+      arith,
+      lost.senders here,
+      ap length (one_of_sender here l one.2.tag is_from),
+      sent_number-is here (letters_of before),
+      sent_number-is here (letters_of after),
+    ) in
     let P : List Letter → Type 0 = λ b. first_broken (local_at state here) (Puts to b) ≡ None in
-    subst P (sym one.1) (unbroken_put (local_at state here) to l may.within (omega (arith, may.all)) may.direct one.2.destination is_from one.2.tag (omega (arith, may.few)))
+    subst P (sym one.1) (unbroken_put (local_at state here) to l may.within (omega (arith, may.all)) may.direct one.2.destination is_from one.2.tag (omega (arith, may.few, count)) (no_counts (state.log here) may.data_alone))
+
+-- a batch that is held holds data letters alone
+pub one_tagged : (to n : ℕ) (batch : List Letter) → (l : Letter) × (batch ≡ l ∷ []) × IsHeldFor n to l → AllByRecursion (λ l. IsTrue (is_data l)) batch
+one_tagged to n batch one = subst (AllByRecursion (λ l. IsTrue (is_data l))) (sym one.1) (one.2.tag, tt)
 
 -- ---- what moves
 
@@ -113,14 +174,14 @@ honest_put here to batch old new same log ok honest =
     let now : local_at new here ≡ record (local_at old here) { log = old.log here ++ Put to batch ∷ [] } = (let a = same.layout in let b = same.scheme in cc) in
     subst IsHonest (sym now) more
 
-pub moved_one : (here to : ℕ) (batch : List Letter) (before after : List (List Letter)) (old new : PostState) → first_broken (local_at old here) (Puts to batch) ≡ None →
+pub moved_one : (here to : ℕ) (batch : List Letter) (before after : List (List Letter)) (old new : PostState) → AllByRecursion (λ l. IsTrue (is_data l)) batch → first_broken (local_at old here) (Puts to batch) ≡ None →
     Loses before after batch → length after ≡ length before → new.log here ≡ old.log here ++ Put to batch ∷ [] → MoveKeeps here old new →
     Moved here before after old new (Put to batch ∷ [])
-moved_one here to batch before after old new ok loses all log keeps =
-    let test : Letter → Bool = λ l. is_data l && (l.from == here) in
+moved_one here to batch before after old new tagged ok loses all log keeps =
     record {
       log = log;
       puts = (tt, tt);
+      data_alone = subst (AllByRecursion (λ l. IsTrue (is_data l))) (sym (append-nil batch)) tagged;
       honest = honest_put here to batch old new keeps.same log ok;
       sent_unchanged = λ d.
           ap (λ xs. pair_put here d xs ++ of_pair here d (letters_of after)) log
@@ -128,7 +189,15 @@ moved_one here to batch before after old new ok loses all log keeps =
           ∙ append_assoc (pair_put here d (old.log here)) (of_pair here d batch) (of_pair here d (letters_of after))
           ∙ ap (λ xs. pair_put here d (old.log here) ++ xs) (sym (loses.pairs here d));
       count_unchanged =
-          omega (arith, ap (λ xs. length (own here xs)) log, ap length (own-put here (old.log here) to batch), length-append (own here (old.log here)) (of_sender here batch), loses.senders here);
+          omega (
+            arith,
+            ap (own_count here) log,
+            own_count-put here (old.log here) to batch,
+            loses.senders here,
+            sent_number-is here batch,
+            sent_number-is here (letters_of before),
+            sent_number-is here (letters_of after),
+          );
       none_more = λ f t none. rest_none (of_pair f t batch) (of_pair f t (letters_of after)) (sym (loses.pairs f t) ∙ none);
       all = all;
       keeps = keeps;
@@ -143,9 +212,10 @@ pub moved_none : (here : ℕ) (before after : List (List Letter)) (old new : Pos
 moved_none here before after old new held log keeps = record {
   log = log ∙ sym (append-nil _);
   puts = tt;
+  data_alone = tt;
   honest = (let now : local_at new here ≡ local_at old here = (let a = keeps.same.layout in let b = keeps.same.scheme in cc) in subst IsHonest (sym now));
   sent_unchanged = λ d. ap (λ xs. sent here d xs (letters_of after)) log ∙ ap (λ xs. sent here d (old.log here) (letters_of xs)) held;
-  count_unchanged = omega (arith, ap (λ xs. length (own here xs)) log, ap (λ xs. length (of_sender here (letters_of xs))) held);
+  count_unchanged = omega (arith, ap (own_count here) log, ap (λ xs. sent_number here (letters_of xs)) held);
   none_more = λ f t none. ap (λ xs. of_pair f t (letters_of xs)) held ∙ none;
   all = ap length held;
   keeps = keeps;
@@ -173,6 +243,7 @@ pub moved_then : (here : ℕ) (a b c : List (List Letter)) (t u v : PostState) (
 moved_then here a b c t u v first later m n = record {
   log = n.log ∙ ap (λ xs. xs ++ later) m.log ∙ append_assoc (t.log here) first later;
   puts = all_append IsPut first later m.puts n.puts;
+  data_alone = data_put first (first ++ later) later refl m.data_alone n.data_alone;
   honest = λ h. n.honest (m.honest h);
   sent_unchanged = λ d. n.sent_unchanged d ∙ m.sent_unchanged d;
   count_unchanged = n.count_unchanged ∙ m.count_unchanged;

@@ -12,6 +12,7 @@ use Rattle.world_core.specs.Pairs.{is_data, of_pair, of_sender, pair_put}
 use Rattle.world_core.specs.Rules.{IsHonest}
 use Rattle.world_core.proofs.Deeds.Honest.{alone_honest}
 use Rattle.world_core.proofs.Log.ByLink.{all_put}
+use Rattle.world_core.proofs.Pairs.Numbers.{sent_number-is}
 use Rattle.comm_rank.specs.Agrees.{Agrees}
 use Rattle.comm_rank.specs.Fold.{Applies}
 use Rattle.comm_rank.specs.Rank.{Rank, held_letters, local_of, sent_to}
@@ -83,6 +84,8 @@ sum_of_sent apply start me log held agrees honest =
     omega (
       arith,
       agrees.sent_count,
+      sent_number-is me.here (letters_put log),
+      sent_number-is me.here (held_letters me),
       by_destination me.here n (letters_put log) put,
       by_destination me.here n (held_letters me) (held_below n me.held held),
       sum_upto-add (λ to. length (pair_put me.here to log)) (λ to. length (of_pair me.here to (held_letters me))) n,

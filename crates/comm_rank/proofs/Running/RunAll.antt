@@ -128,6 +128,9 @@ made_are apply here n m c new l same is = is ∙ ap (λ k. (apply c here k l).0)
 
 -- ---- letter after letter
 
+pub ran_none : {C : Type 0} (apply : Applies C) (me : Rank C) → HasRunAll apply me me []
+ran_none apply me = record { contents = refl; held = gains_none (held_letters me); lawful = tt; run_count = omega arith; sent_count = omega arith }
+
 module _ {C : Type 0} (apply : Applies C) (old mid new : Rank C) (same_here : mid.here ≡ old.here) (same_layout : mid.layout ≡ old.layout) where
   -- what runs later at a rank runs on the contents after the first letters
   later_fold : (c : C) (xs : List Letter) → mid.contents ≡ c → folded apply mid xs ≡ fold_from apply old.here old.layout.ranks c xs

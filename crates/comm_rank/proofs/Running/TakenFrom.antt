@@ -1,5 +1,5 @@
 -- What a take from one rank does to a rank that belongs to the post.
-use Rattle.std.proofs.Common.{◌≡◌, ℕ, ◌+◌, ◌<◌, ◌≤◌, List, [], length, ap, sym, ◌∙◌, subst, inl}
+use Rattle.std.proofs.Common.{◌≡◌, ℕ, ◌+◌, ◌<◌, ◌≤◌, Bool, true, false, List, [], length, refl, ap, sym, ◌∙◌, subst, inl, arith}
 use Rattle.std.specs.List.{AllByRecursion}
 use Rattle.msg_codec.specs.declared.letter.Letter.{Letter}
 use Rattle.ygm_route.specs.declared.scheme.Scheme.TheVariants.{Direct}
@@ -11,9 +11,18 @@ use Rattle.comm_rank.specs.declared.fault.CommFault.{CommFault}
 use Rattle.comm_rank.specs.Agrees.{Agrees, Belongs}
 use Rattle.comm_rank.specs.Fold.{Applies}
 use Rattle.comm_rank.specs.Rank.{IsSameRank, Rank, local_of}
-use Rattle.comm_rank.specs.Running.{HasRunAll, HasTakenFrom, IsFor, StuckIn, TakesKeep, WasCutFrom}
-use Rattle.comm_rank.proofs.Rank.Same.{belongs_still}
+use Rattle.comm_rank.specs.Running.{HasRunAll, HasTakenFrom, IsFor, StuckIn, TakesKeep, WasCutFrom, begins_with_control, for_handlers}
+use Rattle.comm_rank.proofs.Agrees.Arrived.{Brings}
+use Rattle.comm_rank.proofs.Running.RunAll.{ran_none}
+use Rattle.comm_rank.proofs.Rank.Same.{belongs_still, same_rank_none}
 use Rattle.comm_rank.proofs.Agrees.AfterTake.{Arrival, agrees_now, arrival, cut_from, few_run, honest_took, link_unchanged, looked_none, not_looked_none, same_log, taken_here, taken_other, took_from, took_none}
+
+-- the letters of a batch for handlers, by its first letter
+pub all_for_handlers : (batch : List Letter) (control : Bool) → control ≡ begins_with_control batch → control ≡ false → for_handlers batch ≡ batch
+all_for_handlers batch control is none = rw (sym is ∙ none) refl
+
+pub none_for_handlers : (batch : List Letter) (control : Bool) → control ≡ begins_with_control batch → control ≡ true → for_handlers batch ≡ []
+none_for_handlers batch control is some = rw (sym is ∙ some) refl
 
 module _ {C : Type 0} (apply : Applies C) (start : C → C) (old : Rank C) (there from : ℕ) (before after : PostState) (e : there ≡ old.here) (belongs : Belongs apply start old before) (keeps : TakeKeeps there before after) where
   takes_keep : CountsNeverFall before after → (IsHonest (local_of old (before.log old.here)) → IsHonest (local_of old (after.log old.here))) → TakesKeep old before after
@@ -47,38 +56,47 @@ module _ {C : Type 0} (apply : Applies C) (start : C → C) (old : Rank C) (ther
     arrived : Arrival old before after from batch
     arrived = arrival apply start old there before after from batch e keeps.same belongs direct sender took
 
-    pub batch_for : AllByRecursion (IsFor old.here) batch
-    batch_for = arrived.all
-
-    pub batch_few : old.run_count + length batch ≤ most_arrived
-    batch_few = few_run apply start old before after from batch arrived belongs.agrees
-
     pub batch_keeps : TakesKeep old before after
     batch_keeps = takes_keep (after_took there from batch before after keeps took) (honest_took old (before.log old.here) (after.log old.here) from batch arrived.gained)
 
-    module _ (new : Rank C) (same : IsSameRank old new) where
-      pub batch_cut : (fault : CommFault) → StuckIn apply old new batch fault → WasCutFrom from apply old new (before.log old.here) (after.log old.here) fault
-      batch_cut = cut_from apply old new (before.log old.here) (after.log old.here) from batch same arrived.gained arrived.all belongs.agrees.nothing_waits
+    -- these of its letters are for handlers
+    module _ (run : List Letter) (is : for_handlers batch ≡ run) where
+      brings : Brings old.here batch run
+      brings = subst (Brings old.here batch) is arrived.brings
 
-      pub batch_taken : ((c : C) (here ranks : ℕ) (l : Letter) → start (apply c here ranks l).0 ≡ start c) → new.waiting ≡ [] → HasRunAll apply old new batch → HasTakenFrom from apply start old new before after 1
-      batch_taken started none ran =
-          let log = before.log old.here in
-          let now = after.log old.here in
-          let agrees : Agrees apply start new now = agrees_now apply old new log now from batch same arrived.gained arrived.all start started belongs.agrees none ran arrived.modest in
-          let P : ℕ → Type 0 = λ h. Agrees apply start new (after.log h) in
-          record {
-            taken = took_from apply old new log now from batch same arrived.gained arrived.all belongs.agrees.nothing_waits none ran;
-            belongs = record {
-              serves = ap after.serves same.here ∙ keeps.same.serves old.here ∙ belongs.serves;
-              layout = keeps.same.layout ∙ belongs.layout ∙ sym same.layout;
-              scheme = keeps.same.scheme ∙ belongs.scheme ∙ sym same.scheme;
-              agrees = subst P (sym same.here) agrees;
-            };
-            looked = inl (taken_here from batch log now arrived.gained);
-            others = λ other ne. record {
-              taken = taken_other from other batch log now arrived.gained ne;
-              misses = took.misses other;
-              serves = keeps.same.serves other;
-              link = link_unchanged old.here from other batch before after arrived.gained ne (same_log there old.here before after e keeps.same);
-            };
-          }
+      pub batch_for : AllByRecursion (IsFor old.here) run
+      batch_for = brings.all_for
+
+      pub batch_few : old.run_count + length run ≤ most_arrived
+      batch_few = omega (arith, few_run apply start old before after from batch arrived belongs.agrees, ap length is)
+
+      module _ (new : Rank C) (same : IsSameRank old new) where
+        pub batch_cut : (fault : CommFault) → StuckIn apply old new run fault → WasCutFrom from apply old new (before.log old.here) (after.log old.here) fault
+        batch_cut = cut_from apply old new (before.log old.here) (after.log old.here) from batch run same arrived.gained brings belongs.agrees.nothing_waits
+
+        pub batch_taken : ((c : C) (here ranks : ℕ) (l : Letter) → start (apply c here ranks l).0 ≡ start c) → new.waiting ≡ [] → HasRunAll apply old new run → HasTakenFrom from apply start old new before after 1
+        batch_taken started none ran =
+            let log = before.log old.here in
+            let now = after.log old.here in
+            let agrees : Agrees apply start new now = agrees_now apply old new log now from batch run same arrived.gained brings start started belongs.agrees none ran arrived.modest in
+            let P : ℕ → Type 0 = λ h. Agrees apply start new (after.log h) in
+            record {
+              taken = took_from apply old new log now from batch run same arrived.gained brings belongs.agrees.nothing_waits none ran;
+              belongs = record {
+                serves = ap after.serves same.here ∙ keeps.same.serves old.here ∙ belongs.serves;
+                layout = keeps.same.layout ∙ belongs.layout ∙ sym same.layout;
+                scheme = keeps.same.scheme ∙ belongs.scheme ∙ sym same.scheme;
+                agrees = subst P (sym same.here) agrees;
+              };
+              looked = inl (taken_here from batch log now arrived.gained);
+              others = λ other ne. record {
+                taken = taken_other from other batch log now arrived.gained ne;
+                misses = took.misses other;
+                serves = keeps.same.serves other;
+                link = link_unchanged old.here from other batch before after arrived.gained ne (same_log there old.here before after e keeps.same);
+              };
+            }
+
+    -- where none of them is, the rank is unchanged
+    pub control_taken : for_handlers batch ≡ [] → ((c : C) (here ranks : ℕ) (l : Letter) → start (apply c here ranks l).0 ≡ start c) → HasTakenFrom from apply start old old before after 1
+    control_taken is started = batch_taken [] is old (same_rank_none old) started belongs.agrees.nothing_waits (ran_none apply old)

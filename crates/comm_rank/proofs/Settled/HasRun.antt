@@ -10,7 +10,7 @@ use Rattle.world_core.specs.Plain.{Plain}
 use Rattle.list_facts.specs.Prefix.{IsPrefix}
 use Rattle.world_core.specs.Sound.{IsSound}
 use Rattle.world_core.specs.World.{Logs, log_of}
-use Rattle.world_core.proofs.Pairs.OfPair.{pair_of_sender}
+use Rattle.world_core.proofs.Pairs.Numbers.{pair_within_sent}
 use Rattle.comm_rank.specs.Fold.{Applies}
 use Rattle.comm_rank.specs.Rank.{Rank, held_letters, handed, ran_from, sent_to}
 use Rattle.comm_rank.specs.Settled.{AllTaken, AreRanks, HasAdvanced, HasRun, sent_length}
@@ -55,6 +55,6 @@ few_to_one apply start comms links rank me there ranks to =
       sent_at comms links rank to me there mine.here,
       length-append (pair_put me.here to log) (of_pair me.here to (held_letters me)),
       mine.agrees.sent_count,
-      pair_of_sender me.here to (letters_put log),
-      pair_of_sender me.here to (held_letters me),
+      pair_within_sent me.here to (letters_put log),
+      pair_within_sent me.here to (held_letters me),
     )

@@ -1,5 +1,5 @@
 -- What a sound world of straight links says of one link.
-use Rattle.std.proofs.Common.{◌≡◌, ℕ, zero, suc, ◌+◌, ◌<◌, ◌≤◌, Bool, true, false, ◌&&◌, nat_eq, eqb-true, eq-eqb, Some, None, List, [], ◌∷◌, ◌++◌, length, drop, take, slice_get, refl, sym, ap, ◌∙◌, subst, arith, append-nil, length-append, if◌then◌else◌}
+use Rattle.std.proofs.Common.{◌≡◌, ℕ, zero, suc, ◌+◌, ◌<◌, ◌≤◌, Bool, true, false, nat_eq, eq-eqb, Some, None, List, [], ◌∷◌, ◌++◌, length, drop, take, slice_get, refl, sym, ap, ◌∙◌, subst, arith, append-nil, length-append, if◌then◌else◌}
 use Rattle.std.specs.Bool.{IsTrue}
 use Rattle.std.specs.List.{AllByRecursion, cons_option}
 use Rattle.std.proofs.Math.Seq.{drop-append_seam}
@@ -12,17 +12,18 @@ use Rattle.ygm_route.specs.declared.scheme.Scheme.TheVariants.{Direct}
 use Rattle.ygm_route.specs.Path.{crosses, path}
 use Rattle.world_core.specs.declared.entry.Entry.{Entry}
 use Rattle.world_core.specs.declared.entry.Entry.TheVariants.{Put, Took}
-use Rattle.world_core.specs.Log.{batches_put, batches_taken, letters_of, took_from}
+use Rattle.world_core.specs.Log.{batches_put, batches_taken, letters_of, letters_put, took_from}
 use Rattle.world_core.specs.Modest.{IsWorld}
-use Rattle.world_core.specs.Pairs.{is_data, is_of_pair, pair_put, pair_taken}
+use Rattle.world_core.specs.Pairs.{is_data, is_of_pair, of_pair, pair_put, pair_taken}
 use Rattle.world_core.specs.World.{Logs, link, local, log_of}
 use Rattle.world_core.proofs.Deeds.Unbroken.{unbroken}
 use Rattle.world_core.proofs.Deeds.Sent.{IsCarried}
 use Rattle.world_core.proofs.Modest.EachEvent.{base_of}
-use Rattle.list_facts.proofs.Elements.{all_prefix, all_second, all_weaker}
-use Rattle.list_facts.proofs.Tests.{and_first, and_second}
+use Rattle.list_facts.proofs.Elements.{all_prefix, all_second, both_of}
+use Rattle.list_facts.proofs.Prefix.{prefix_joined}
 use Rattle.world_core.proofs.Sound.OnPath.{carried_put, carried_taken}
-use Rattle.world_core.proofs.Log.ByLink.{only_put, only_taken}
+use Rattle.world_core.proofs.Log.ByLink.{each_put, only_put, only_taken}
+use Rattle.world_core.proofs.Pairs.OfPair.{pair_data, pair_of}
 use Rattle.comm_rank.proofs.Agrees.Arrived.{crossed_direct, crossed_from}
 
 abbrev HasSome : List Letter → Type 0
@@ -49,38 +50,33 @@ some_batches (Put to batch ∷ log) h d = by_test (nat_eq to d) (some_batches lo
     by_test true rest = (h zero to batch refl, rest)
     by_test false rest = rest
 
+-- each rank put data letters alone
+abbrev pub PutData : Logs → Type 0
+PutData world = (rank : ℕ) → AllByRecursion (λ l. IsTrue (is_data l)) (letters_put (log_of world rank))
+
 module _ (world : Logs) (w : IsWorld world) (direct : world.scheme ≡ Direct) (some : 0 < world.layout.ranks) where
-  from_is : (c d : ℕ) (l : Letter) → IsCarried world.layout world.scheme c d l → l.from ≡ c
-  from_is c d l h =
+  from_is : (c d : ℕ) (l : Letter) → IsCarried world.layout world.scheme c d l → is_data l ≡ true → l.from ≡ c
+  from_is c d l h tag =
       let P : Scheme → Type 0 = λ scheme. IsTrue (crosses (path world.layout scheme l.from l.to) c d) in
-      crossed_from world.layout l.from l.to c d some (subst P direct h.crossed)
+      crossed_from world.layout l.from l.to c d some (subst P direct (h.crossed tag))
 
-  to_is : (c d : ℕ) (l : Letter) → IsCarried world.layout world.scheme c d l → l.to ≡ d
-  to_is c d l h =
+  to_is : (c d : ℕ) (l : Letter) → IsCarried world.layout world.scheme c d l → is_data l ≡ true → l.to ≡ d
+  to_is c d l h tag =
       let P : Scheme → Type 0 = λ scheme. IsTrue (crosses (path world.layout scheme l.from l.to) c d) in
-      crossed_direct world.layout l.from l.to c d some (subst P direct h.crossed)
+      crossed_direct world.layout l.from l.to c d some (subst P direct (h.crossed tag))
 
-  of_link : (c d : ℕ) (l : Letter) → IsCarried world.layout world.scheme c d l → is_of_pair c d l ≡ true
-  of_link c d l h =
-      let tagged : is_data l ≡ true = h.lawful.tag in
-      let a : nat_eq l.from c ≡ true = eq-eqb l.from c (from_is c d l h) in
-      let b : nat_eq l.to d ≡ true = eq-eqb l.to d (to_is c d l h) in
-      rw (tagged, a, b) refl
-
-  -- what was put, and what was taken, of a pair is what its link carried
-  pub put_is : (c d : ℕ) → pair_put c d (log_of world c) ≡ letters_of (batches_put d (log_of world c))
+  -- what was put, and what was taken, of a pair is what its link carried of it
+  pub put_is : (c d : ℕ) → pair_put c d (log_of world c) ≡ of_pair c d (letters_of (batches_put d (log_of world c)))
   put_is c d =
       only_put (is_of_pair c d) d (λ rank l. IsCarried world.layout world.scheme c rank l)
-      (λ rank l h yes. sym (to_is c rank l h) ∙ eqb-true l.to d (and_second (is_data l && nat_eq l.from c) (nat_eq l.to d) yes))
+      (λ rank l h yes. sym (to_is c rank l h (pair_data c d l yes)) ∙ (pair_of c d l yes).1)
       (log_of world c) (λ rank. carried_put world (base_of world w) c rank)
-      ∙ filter_all (is_of_pair c d) _ (all_weaker _ _ _ (of_link c d) (carried_put world (base_of world w) c d))
 
-  pub taken_is : (c d : ℕ) → pair_taken c d (log_of world d) ≡ letters_of (batches_taken c (log_of world d))
+  pub taken_is : (c d : ℕ) → pair_taken c d (log_of world d) ≡ of_pair c d (letters_of (batches_taken c (log_of world d)))
   taken_is c d =
       only_taken (is_of_pair c d) c (λ rank l. IsCarried world.layout world.scheme rank d l)
-      (λ rank l h yes. sym (from_is rank d l h) ∙ eqb-true l.from c (and_second (is_data l) (nat_eq l.from c) (and_first (is_data l && nat_eq l.from c) (nat_eq l.to d) yes)))
+      (λ rank l h yes. sym (from_is rank d l h (pair_data c d l yes)) ∙ (pair_of c d l yes).0)
       (log_of world d) (λ rank. carried_taken world (base_of world w) rank d)
-      ∙ filter_all (is_of_pair c d) _ (all_weaker _ _ _ (of_link c d) (carried_taken world (base_of world w) c d))
 
   put_some : (c d : ℕ) → c < world.layout.ranks → AllByRecursion HasSome (batches_put d (log_of world c))
   put_some c d within = some_batches (log_of world c)
@@ -93,20 +89,43 @@ module _ (world : Logs) (w : IsWorld world) (direct : world.scheme ≡ Direct) (
       let rest : drop (length (batches_taken c (log_of world d))) (batches_taken c (log_of world d) ++ agree.rest) ≡ agree.rest = drop-append_seam (batches_taken c (log_of world d)) agree.rest in
       let nothing : agree.rest ≡ [] = sym rest ∙ ap (drop (length (batches_taken c (log_of world d)))) agree.joined ∙ none in
       let same : batches_taken c (log_of world d) ≡ batches_put d (log_of world c) = sym (append-nil _) ∙ ap (λ xs. batches_taken c (log_of world d) ++ xs) (sym nothing) ∙ agree.joined in
-      omega (arith, ap length (put_is c d), ap length (taken_is c d), ap (λ bs. length (letters_of bs)) same)
-
-  -- a link carried no more batches than letters
-  pub carried_few : (c d : ℕ) → c < world.layout.ranks → length (batches_put d (log_of world c)) ≤ length (pair_put c d (log_of world c))
-  carried_few c d within = omega (arith, ap length (put_is c d), as_many _ (put_some c d within))
+      omega (arith, ap length (put_is c d), ap length (taken_is c d), ap (λ bs. length (of_pair c d (letters_of bs))) same)
 
   taken_some : (c d : ℕ) → c < world.layout.ranks → AllByRecursion HasSome (batches_taken c (log_of world d))
   taken_some c d within = all_prefix HasSome (w.sound.agree c d) (put_some c d within)
 
+  module _ (data_put : PutData world) where
+    of_link : (c d : ℕ) (l : Letter) → IsCarried world.layout world.scheme c d l → IsTrue (is_data l) → is_of_pair c d l ≡ true
+    of_link c d l h tag =
+        let a : nat_eq l.from c ≡ true = eq-eqb l.from c (from_is c d l h tag) in
+        let b : nat_eq l.to d ≡ true = eq-eqb l.to d (to_is c d l h tag) in
+        rw (tag, a, b) refl
+
+    data_on : (c d : ℕ) → AllByRecursion (λ l. IsTrue (is_data l)) (letters_of (batches_put d (log_of world c)))
+    data_on c d = each_put (λ l. IsTrue (is_data l)) (log_of world c) (data_put c) d
+
+    -- all that a link carried is of its pair
+    letters_put_is : (c d : ℕ) → pair_put c d (log_of world c) ≡ letters_of (batches_put d (log_of world c))
+    letters_put_is c d =
+        put_is c d
+        ∙ filter_all (is_of_pair c d) _ (both_of _ (λ l. IsTrue (is_data l)) _ _ (of_link c d) (carried_put world (base_of world w) c d) (data_on c d))
+
+    pub letters_taken_is : (c d : ℕ) → pair_taken c d (log_of world d) ≡ letters_of (batches_taken c (log_of world d))
+    letters_taken_is c d =
+        let data_taken : AllByRecursion (λ l. IsTrue (is_data l)) (letters_of (batches_taken c (log_of world d))) =
+        all_prefix (λ l. IsTrue (is_data l)) (prefix_joined (w.sound.agree c d)) (data_on c d) in
+        taken_is c d
+        ∙ filter_all (is_of_pair c d) _ (both_of _ (λ l. IsTrue (is_data l)) _ _ (of_link c d) (carried_taken world (base_of world w) c d) data_taken)
+
+    -- a link carried no more batches than letters
+    pub carried_few : (c d : ℕ) → c < world.layout.ranks → length (batches_put d (log_of world c)) ≤ length (pair_put c d (log_of world c))
+    carried_few c d within = omega (arith, ap length (letters_put_is c d), as_many _ (put_some c d within))
+
 -- one more batch was taken, so at least one more letter
-pub one_more : (old new : Logs) (v : IsWorld old) (w : IsWorld new) (direct : old.scheme ≡ Direct) (direct' : new.scheme ≡ Direct) (some : 0 < old.layout.ranks) (some' : 0 < new.layout.ranks) (c d : ℕ) → c < new.layout.ranks →
+pub one_more : (old new : Logs) (v : IsWorld old) (w : IsWorld new) (before : PutData old) (after : PutData new) (direct : old.scheme ≡ Direct) (direct' : new.scheme ≡ Direct) (some : 0 < old.layout.ranks) (some' : 0 < new.layout.ranks) (c d : ℕ) → c < new.layout.ranks →
     (gained : List Entry) → log_of new d ≡ log_of old d ++ gained → length (batches_taken c (log_of new d)) ≡ length (batches_taken c (log_of old d)) + 1 →
     length (pair_taken c d (log_of old d)) + 1 ≤ length (pair_taken c d (log_of new d))
-one_more old new v w direct direct' some some' c d within gained log more =
+one_more old new v w before after direct direct' some some' c d within gained log more =
     let was = batches_taken c (log_of old d) in
     let now : batches_taken c (log_of new d) ≡ was ++ batches_taken c gained = ap (batches_taken c) log ∙ filter_map-append (took_from c) (log_of old d) gained in
     let all : AllByRecursion HasSome (was ++ batches_taken c gained) = subst (AllByRecursion HasSome) now (taken_some new w direct' some' c d within) in
@@ -120,6 +139,6 @@ one_more old new v w direct direct' some some' c d within gained log more =
       length-append was (batches_taken c gained),
       ap length letters,
       length-append (letters_of was) (letters_of (batches_taken c gained)),
-      ap length (taken_is old v direct some c d),
-      ap length (taken_is new w direct' some' c d),
+      ap length (letters_taken_is old v direct some before c d),
+      ap length (letters_taken_is new w direct' some' after c d),
     )

@@ -5,11 +5,10 @@ use Rattle.std.proofs.lemmas.Bool.{cases_eq}
 use Rattle.std.proofs.lemmas.Grind.{flat_map-append}
 use Rattle.std.proofs.lemmas.List.Elements.{filter-append}
 use Rattle.std.proofs.lemmas.Option.{slice_get_within}
-use Rattle.msg_codec.specs.declared.letter.Letter.{Letter}
 use Rattle.ygm_route.specs.declared.scheme.Scheme.TheVariants.{Direct}
 use Rattle.ygm_route.specs.Layout.{Shape}
 use Rattle.world_core.specs.declared.entry.Entry.{Entry}
-use Rattle.world_core.specs.Log.{batches_put, batches_taken, letters_of, letters_put, letters_taken}
+use Rattle.world_core.specs.Log.{batches_put, batches_taken, letters_of, letters_taken}
 use Rattle.world_core.specs.Modest.{IsWorld}
 use Rattle.world_core.specs.Pairs.{arrived, for_rank, is_of_pair, of_pair, pair_put, pair_taken}
 use Rattle.world_core.specs.Plain.{Plain}
@@ -21,7 +20,6 @@ use Rattle.comm_rank.specs.Turns.{CutOff}
 use Rattle.comm_rank.specs.declared.fault.CommFault.{CommFault}
 use Rattle.list_facts.proofs.Places.{item_there, same_item}
 use Rattle.comm_rank.proofs.Agrees.Arrived.{ran_all, ran_is}
-use Rattle.list_facts.proofs.Filters.{filter_within}
 use Rattle.comm_rank.proofs.Rank.RanFrom.{pair_of_rank}
 use Rattle.comm_rank.proofs.Running.TookBelow.{taken_append}
 use Rattle.comm_rank.proofs.Settled.Links.{put_is, taken_is}
@@ -29,24 +27,18 @@ use Rattle.comm_rank.proofs.Agrees.AfterPuts.{same_taken}
 
 -- ---- a link
 
-again : (from to : ℕ) (xs : List Letter) → of_pair from to (of_pair from to xs) ≡ of_pair from to xs
-again from to xs = filter_within (is_of_pair from to) (is_of_pair from to) xs (λ l h. h)
-
 -- what was put is what was taken, followed by what is in the link
 taken_then_link : (world : Logs) → IsWorld world → world.scheme ≡ Direct → 0 < world.layout.ranks → (from to : ℕ) →
     pair_put from to (log_of world from) ≡ pair_taken from to (log_of world to) ++ of_pair from to (letters_of (link world from to))
 taken_then_link world w direct some from to =
-    let put = put_is world w direct some from to in
     let taken = batches_taken from (log_of world to) in
     let agree = w.sound.agree from to in
     let rest : agree.rest ≡ link world from to = sym (drop-append_seam taken agree.rest) ∙ ap (drop (length taken)) agree.joined in
     let all : batches_put to (log_of world from) ≡ taken ++ link world from to = sym agree.joined ∙ ap (λ xs. taken ++ xs) rest in
-    let letters : pair_put from to (log_of world from) ≡ letters_of taken ++ letters_of (link world from to) =
-    put ∙ ap letters_of all ∙ flat_map-append (λ b. b) taken (link world from to) in
-    let came : of_pair from to (letters_of taken) ≡ pair_taken from to (log_of world to) =
-    ap (of_pair from to) (sym (taken_is world w direct some from to)) ∙ again from to (letters_taken (log_of world to)) in
-    sym (again from to (letters_put (log_of world from))) ∙ ap (of_pair from to) letters ∙ filter-append (is_of_pair from to) (letters_of taken) (letters_of (link world from to))
-    ∙ ap (λ xs. xs ++ of_pair from to (letters_of (link world from to))) came
+    let letters : letters_of (batches_put to (log_of world from)) ≡ letters_of taken ++ letters_of (link world from to) =
+    ap letters_of all ∙ flat_map-append (λ b. b) taken (link world from to) in
+    put_is world w direct some from to ∙ ap (of_pair from to) letters ∙ filter-append (is_of_pair from to) (letters_of taken) (letters_of (link world from to))
+    ∙ ap (λ xs. xs ++ of_pair from to (letters_of (link world from to))) (sym (taken_is world w direct some from to))
 
 -- ---- a rank
 

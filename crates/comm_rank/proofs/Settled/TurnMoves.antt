@@ -1,20 +1,23 @@
 -- What one turn over plain links does to them.
-use Rattle.std.proofs.Common.{◌≡◌, ◌≢◌, ◌⊎◌, ℕ, ◌+◌, ◌<◌, ◌≤◌, Bool, false, leb-true, lt-ltb, Some, List, [], ◌++◌, length, drop, set, slice_get, refl, sym, ap, ◌∙◌, subst, inl, inr, arith, append-nil, append_assoc, length-append, length-set}
-use Rattle.std.proofs.lemmas.Bool.{cases_eq, or_cases}
+use Rattle.std.proofs.Common.{◌≡◌, ◌≢◌, ◌⊎◌, ℕ, ◌+◌, ◌<◌, ◌≤◌, Bool, false, leb-true, lt-ltb, Some, List, [], ◌++◌, length, drop, get_or, set, slice_get, refl, sym, ap, ◌∙◌, subst, inl, inr, arith, append-nil, append_assoc, length-append, length-set}
+use Rattle.std.specs.Bool.{IsTrue}
+use Rattle.std.specs.List.{AllByRecursion}
+use Rattle.std.proofs.lemmas.Bool.{cases_eq, cases_lt, or_cases}
 use Rattle.std.proofs.lemmas.Grind.{flat_map-append}
 use Rattle.std.proofs.lemmas.List.Elements.{filter-append}
-use Rattle.std.proofs.lemmas.Option.{slice_get_within}
-use Rattle.std.proofs.lemmas.List.{nil_from_length}
+use Rattle.std.proofs.lemmas.Option.{slice_get-get_or, slice_get_within}
+use Rattle.std.proofs.lemmas.List.{get_or_past, nil_from_length}
 use Rattle.msg_codec.specs.declared.letter.Letter.{Letter}
+use Rattle.world_core.specs.declared.entry.Entry.{Entry}
 use Rattle.ygm_route.specs.declared.scheme.Scheme.TheVariants.{Direct}
 use Rattle.ygm_route.specs.Layout.{Shape}
 use Rattle.world_core.specs.Log.{batches_put, batches_taken, letters_put, letters_taken, letters_taken_by}
 use Rattle.world_core.specs.Modest.{IsWorld}
-use Rattle.world_core.specs.Pairs.{for_rank, is_of_pair, of_pair, of_sender, own, pair_put, pair_taken}
+use Rattle.world_core.specs.Pairs.{for_rank, is_data, is_of_pair, of_pair, own_count, pair_put, pair_taken, sent_number}
 use Rattle.world_core.specs.Plain.{Plain, state_of}
 use Rattle.world_core.specs.Post.{SamePost}
 use Rattle.world_core.specs.World.{link, log_of}
-use Rattle.world_core.proofs.Pairs.OfPair.{pair_of_sender}
+use Rattle.world_core.proofs.Pairs.Numbers.{pair_within_sent}
 use Rattle.comm_rank.specs.declared.turn.Turn.{Turn}
 use Rattle.comm_rank.specs.Agrees.{Agrees}
 use Rattle.comm_rank.specs.Fold.{Applies}
@@ -24,7 +27,7 @@ use Rattle.comm_rank.specs.Store.{AreApart}
 use Rattle.comm_rank.specs.Turns.{Advanced, LookedAt, NoneOrFull, Turned}
 use Rattle.list_facts.proofs.Places.{same_item, item_set, item_kept}
 use Rattle.comm_rank.proofs.Settled.Advanced.{advanced_unchanged}
-use Rattle.comm_rank.proofs.Settled.Links.{carried_few, empty_link, one_more}
+use Rattle.comm_rank.proofs.Settled.Links.{PutData, carried_few, empty_link, one_more}
 use Rattle.comm_rank.proofs.Settled.Rounds.{same_taken}
 
 -- ---- lists with one element changed
@@ -34,6 +37,17 @@ pub sent_at : {C : Type 0} (comms : List (Rank C)) (links : Plain) (rank to : �
 sent_at comms links rank to me there here =
     let log = log_of links.world rank in
     ap (λ o. length (pair_put rank to log ++ of_pair rank to (held_in o))) there ∙ ap (λ h. length (pair_put h to log ++ of_pair h to (held_letters me))) (sym here)
+
+-- ranks that agree with their logs put data letters alone, and there are no other logs
+pub data_of_ranks : {C : Type 0} (apply : Applies C) (start : C → C) (comms : List (Rank C)) (links : Plain) (some : Rank C) → AreRanks apply start comms links →
+    length links.world.logs ≡ links.world.layout.ranks → PutData links.world
+data_of_ranks apply start comms links some ranks all rank = elim (cases_lt rank (length comms)) [
+  | inl within ↦ (ranks.each rank (get_or comms rank some) (slice_get-get_or comms rank some within)).agrees.data_alone
+  | inr past ↦
+      let none : log_of links.world rank ≡ [] = get_or_past links.world.logs rank [] (omega (arith, past, all, ranks.all)) in
+      let P : List Entry → Type 0 = λ log. AllByRecursion (λ l. IsTrue (is_data l)) (letters_put log) in
+      subst P (sym none) tt
+]
 
 -- ---- a turn
 
@@ -194,9 +208,19 @@ module _ {C : Type 0} (apply : Applies C) (start : C → C) (comms : List (Rank 
       some_now : 0 < new.world.layout.ranks
       some_now = omega (arith, some, count)
 
+      -- each rank put data letters alone
+      data_before : PutData old.world
+      data_before = data_of_ranks apply start comms old me ranks v.sound.all_ranks
+
+      data_now : PutData new.world
+      data_now other = elim (cases_eq other rank) [
+        | inl is ↦ let P : ℕ → Type 0 = λ r. AllByRecursion (λ l. IsTrue (is_data l)) (letters_put (log_of new.world r)) in subst P (sym is) at.agrees.data_alone
+        | inr ne ↦ let P : List Entry → Type 0 = λ log. AllByRecursion (λ l. IsTrue (is_data l)) (letters_put log) in subst P (sym (at.same.other_logs other ne)) (data_before other)
+      ]
+
       looks : (from : ℕ) → from < new.world.layout.ranks → (link old.world from rank ≡ []) ⊎ (taken_length old from rank + 1 ≤ taken_length new from rank)
       looks from lt = elim (at.takes from (omega (arith, lt, count, count_me))) [
-        | inl took ↦ inr (one_more old.world new.world v w was_direct is_direct some some_now from rank lt (at.turned.taken ++ at.turned.placed) log_now took)
+        | inl took ↦ inr (one_more old.world new.world v w data_before data_now was_direct is_direct some some_now from rank lt (at.turned.taken ++ at.turned.placed) log_now took)
         | inr missed ↦ inl (missed.1 (lt-ltb from old.world.layout.ranks (omega (arith, lt, count))))
       ]
 
@@ -205,8 +229,8 @@ module _ {C : Type 0} (apply : Applies C) (start : C → C) (comms : List (Rank 
           ap (λ o. length (pair_put rank to (log_of new.world rank) ++ of_pair rank to (held_in o))) now_there
           ∙ length-append (pair_put rank to (log_of new.world rank)) (of_pair rank to (held_letters now))
 
-      own_count : now.sent_count ≡ length (own rank (log_of new.world rank)) + length (of_sender rank (held_letters now))
-      own_count = at.agrees.sent_count ∙ ap (λ h. length (own h (log_of new.world rank)) + length (of_sender h (held_letters now))) now_here
+      sent_here : now.sent_count ≡ own_count rank (log_of new.world rank) + sent_number rank (held_letters now)
+      sent_here = at.agrees.sent_count ∙ ap (λ h. own_count h (log_of new.world rank) + sent_number h (held_letters now)) now_here
 
       loads : (to : ℕ) → to < new.world.layout.ranks → IsLoaded after new rank to
       loads to lt none =
@@ -220,20 +244,20 @@ module _ {C : Type 0} (apply : Applies C) (start : C → C) (comms : List (Rank 
                   absurd (omega (arith, long, ap length none, room, at.same.ring))
               | inr full ↦
                   let carried : new.batches ≤ length (batches_put to (log_of new.world rank)) = leb-true new.batches (length (batches_put to (log_of new.world rank))) full in
-                  let letters = carried_few new.world w is_direct some_now rank to here in
+                  let letters = carried_few new.world w is_direct some_now data_now rank to here in
                   omega (
                     arith,
                     put,
                     held_more to,
                     carried,
                     letters,
-                    own_count,
+                    sent_here,
                     few,
                     same_rank.most,
                     mine.few,
                     at.same.batches,
-                    pair_of_sender rank to (letters_put (log_of new.world rank)),
-                    pair_of_sender rank to (held_letters now),
+                    pair_within_sent rank to (letters_put (log_of new.world rank)),
+                    pair_within_sent rank to (held_letters now),
                   )
             ]
           ]

@@ -1,5 +1,5 @@
 -- The first rule that a put of one control letter breaks.
-use Rattle.std.proofs.Common.{◌≡◌, ℕ, Bool, true, false, not, ◌&&◌, ◌||◌, nat_eq, eq-eqb, Some, None, List, [], ◌∷◌, refl, sym, ◌∙◌, subst, if◌then◌else◌}
+use Rattle.std.proofs.Common.{◌≡◌, ℕ, Bool, true, false, not, ◌&&◌, nat_eq, eq-eqb, Some, None, [], ◌∷◌, refl, sym, ◌∙◌, subst, if◌then◌else◌}
 use Rattle.std.proofs.lemmas.Bool.{false_from_ne_true}
 use Rattle.msg_codec.specs.Control.{IsCountFrom, IsTotalTo, control_of_letter, is_control, is_count, is_total}
 use Rattle.msg_codec.specs.declared.letter.Letter.{Letter}

@@ -1,12 +1,11 @@
 -- The first rule that a put breaks: of the rules on the whole deed, and then of those on data letters or of those on a
 -- control letter.
-use Rattle.std.proofs.Common.{◌≡◌, ℕ, Bool, true, false, not, ◌&&◌, ◌||◌, nat_eq, Option, Some, None, List, [], ◌∷◌, ◌++◌, length, refl, sym, ap, ◌∙◌, if◌then◌else◌}
+use Rattle.std.proofs.Common.{◌≡◌, ℕ, Bool, true, false, not, ◌&&◌, ◌||◌, nat_eq, Some, None, List, [], ◌∷◌, ◌++◌, length, refl, sym, ap, ◌∙◌, if◌then◌else◌}
 use Rattle.std.specs.List.{AllByRecursion, list_any}
 use Rattle.list_facts.proofs.Elements.{all_append, all_weaker}
 use Rattle.list_facts.proofs.Tests.{none_any}
 use Rattle.msg_codec.specs.Control.{is_count}
 use Rattle.msg_codec.specs.declared.letter.Letter.{Letter}
-use Rattle.world_core.specs.declared.why.Why.{Why}
 use Rattle.world_core.specs.declared.why.Why.TheVariants.{NoSuchRank, EmptyBatch, BadTag, MixedControl}
 use Rattle.world_core.specs.ControlRules.{count_early, count_unforwarded, count_wrong, is_free, sent_while_counted, total_early, total_wrong, wrong_control}
 use Rattle.world_core.specs.Local.{Local, having_put}

@@ -1,9 +1,9 @@
 -- After the rules on the whole deed, a batch is data letters, or one control letter.
-use Rattle.std.proofs.Common.{◌≡◌, ℕ, suc, ◌<◌, Bool, true, false, cond, not, ◌&&◌, ◌||◌, nat_lt, nat_eq, eqb-true, ltb-true, le-ltb, eq-eqb, Some, List, [], ◌∷◌, ◌++◌, length, slice_get, refl, sym, ap, ◌∙◌, subst, arith}
-use Rattle.std.specs.List.{AllByRecursion, list_any}
-use Rattle.std.proofs.lemmas.Bool.{false_from_ne_true, not-false, or_parts}
+use Rattle.std.proofs.Common.{◌≡◌, ℕ, ◌<◌, Bool, true, false, not, ◌&&◌, eqb-true, ltb-true, Some, List, [], ◌∷◌, slice_get, refl, sym, ap, ◌∙◌, subst, arith}
+use Rattle.std.specs.List.{AllByRecursion}
+use Rattle.std.proofs.lemmas.Bool.{false_from_ne_true, not-false}
 use Rattle.list_facts.proofs.Elements.{both_of}
-use Rattle.list_facts.proofs.Tests.{and_first, and_false_second, or_false_first, or_false_second}
+use Rattle.list_facts.proofs.Tests.{and_first, and_false_second}
 use Rattle.msg_codec.specs.Control.{is_control, is_count, is_total}
 use Rattle.msg_codec.specs.declared.letter.Letter.{Letter}
 use Rattle.world_core.specs.Local.{Local}

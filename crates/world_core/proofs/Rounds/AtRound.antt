@@ -1,5 +1,5 @@
 -- A walk over rounds: the first round of the present barrier, the sums of the round before, and how many barriers ended.
-use Rattle.std.proofs.Common.{◌≡◌, ℕ, zero, suc, pred, ◌+◌, ◌≤◌, ◌<◌, Bool, true, false, cond, ◌&&◌, nat_lt, add-one, refl, sym, ap, ◌∙◌, subst, inl, inr, arith, le_trans, if◌then◌else◌}
+use Rattle.std.proofs.Common.{◌≡◌, ℕ, zero, suc, pred, ◌+◌, ◌≤◌, ◌<◌, Bool, true, false, ◌&&◌, nat_lt, add-one, refl, sym, ap, ◌∙◌, subst, inl, inr, arith}
 use Rattle.std.proofs.lemmas.Bool.{cases_lt}
 use Rattle.world_core.specs.Rounds.{Sums, agree, ended_below, ends, first_round}
 use Rattle.world_core.proofs.Rounds.Stepwise.{ended_next, ends_now, first_next}

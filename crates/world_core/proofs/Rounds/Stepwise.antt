@@ -1,10 +1,10 @@
 -- Barriers, round by round.
-use Rattle.std.proofs.Common.{◌≡◌, ℕ, zero, suc, pred, ◌+◌, ◌≤◌, ◌<◌, Bool, true, false, cond, ◌&&◌, nat_lt, is_some, List, length, refl, sym, ap, ◌∙◌, add-one, arith, if◌then◌else◌}
+use Rattle.std.proofs.Common.{◌≡◌, ℕ, zero, suc, pred, ◌+◌, ◌≤◌, ◌<◌, true, false, ◌&&◌, nat_lt, is_some, List, length, refl, ap, add-one, arith, if◌then◌else◌}
 use Rattle.list_facts.proofs.Below.{row_is}
 use Rattle.world_core.specs.declared.entry.Entry.{Entry}
 use Rattle.world_core.specs.Counts.{total_taken}
 use Rattle.world_core.specs.Log.{letters_taken}
-use Rattle.world_core.specs.Rounds.{Sums, agree, barrier_start, ended_below, ends, ends_from, first_round, rounds_known, sums_told}
+use Rattle.world_core.specs.Rounds.{Sums, agree, barrier_start, ended_below, ends, first_round, rounds_known, sums_told}
 
 -- the round after the last one that ended a barrier, and how many did
 module _ (sums : ℕ → Sums) (q : ℕ) where

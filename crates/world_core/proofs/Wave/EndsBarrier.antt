@@ -1,5 +1,5 @@
 -- Which rounds of a world ended a barrier, and how many did.
-use Rattle.std.proofs.Common.{◌≡◌, ℕ, ◌+◌, ◌≤◌, ◌<◌, Bool, true, false, not, nat_lt, ltb-true, refl, sym, ap, ◌∙◌, inl, inr, arith}
+use Rattle.std.proofs.Common.{◌≡◌, ℕ, ◌≤◌, ◌<◌, Bool, true, false, not, nat_lt, ltb-true, refl, sym, ap, ◌∙◌, inl, inr, arith}
 use Rattle.std.proofs.lemmas.Bool.{cases_lt, not-false}
 use Rattle.list_facts.proofs.Below.{none_below, row_is, row_passes}
 use Rattle.world_core.specs.Counts.{counts}

@@ -11,9 +11,9 @@ use Rattle.ygm_route.specs.declared.scheme.Scheme.TheVariants.{Direct}
 use Rattle.ygm_route.specs.Layout.{Shape}
 use Rattle.world_core.specs.Local.{Local}
 use Rattle.world_core.specs.Log.{letters_taken}
-use Rattle.world_core.specs.Modest.{IsLawful}
 use Rattle.world_core.specs.Pairs.{arrived, for_rank, is_data, is_of_pair, of_pair}
 use Rattle.world_core.specs.World.{log_of}
+use Rattle.world_core.proofs.Modest.Lawful.{IsLawfulLetter, lawful_letters}
 use Rattle.list_facts.proofs.Elements.{all_take}
 use Rattle.list_facts.specs.Sums.{sum_upto}
 use Rattle.list_facts.proofs.Sums.{sum_by-map, sum_by-ones, sum_upto-le, sum_upto-list, sum_upto-same, sum_upto-zero}
@@ -45,7 +45,7 @@ came_from_below ranks here [] h = tt
 came_from_below ranks here (l ∷ ls) h = (h.0.sender, came_from_below ranks here ls h.1)
 
 -- the letters for a rank among lawful ones came to it
-came_of : (me : Local) (here : ℕ) (ls : List Letter) → AllByRecursion (IsLawful me) ls → AllByRecursion (CameTo me.layout.ranks here) (for_rank here ls)
+came_of : (me : Local) (here : ℕ) (ls : List Letter) → AllByRecursion (IsLawfulLetter me) ls → AllByRecursion (CameTo me.layout.ranks here) (for_rank here ls)
 came_of me here [] h = tt
 came_of me here (l ∷ ls) h = by_test (is_data l && eqb l.to here) refl (came_of me here ls h.1) where
   by_test : (b : Bool) → (is_data l && eqb l.to here) ≡ b → AllByRecursion (CameTo me.layout.ranks here) (for_rank here ls) → AllByRecursion (CameTo me.layout.ranks here) (cond b (l ∷ for_rank here ls) (for_rank here ls))
@@ -101,7 +101,7 @@ module _ (files : List (List (List ℕ))) (ranks : ℕ) (comms : List (Rank Coun
       let log = log_of links.world d in
       let is = is_rank d t in
       let there_are : me.layout.ranks ≡ ranks = ap (λ (l : Shape). l.ranks) is.layout ∙ sym ready.ranks.all ∙ h.all in
-      let all = all_take (CameTo me.layout.ranks me.here) (length (arrived me.here log) - length (for_rank me.here me.waiting)) (arrived me.here log) (came_of (local_of me log) me.here (letters_taken log) is.agrees.modest.lawful) in
+      let all = all_take (CameTo me.layout.ranks me.here) (length (arrived me.here log) - length (for_rank me.here me.waiting)) (arrived me.here log) (came_of (local_of me log) me.here (letters_taken log) (lawful_letters (local_of me log) is.agrees.modest.lawful)) in
       subst (λ n. AllByRecursion (CameTo n d) (ran d)) there_are (subst (λ k. AllByRecursion (CameTo me.layout.ranks k) (ran d)) is.here all)
 
   ran_of : (s d : ℕ) → s < ranks → d < ranks → letters_from s (ran d) ≡ letters_of ranks s d (own s)

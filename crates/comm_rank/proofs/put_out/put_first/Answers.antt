@@ -5,7 +5,7 @@ use Rattle.world_core.proofs.Posts.CountsNeverFall.{after_put_done, after_put_fu
 use Rattle.comm_rank.specs.Held.{held_for}
 use Rattle.comm_rank.specs.Moves.{Moved}
 use Rattle.comm_rank.proofs.Moves.EachRank.{full_still}
-use Rattle.comm_rank.proofs.Moves.OnePut.{found_full, given_back, had_no_memory, may_put_one, move_keeps, moved_none, moved_one, some_held}
+use Rattle.comm_rank.proofs.Moves.OnePut.{found_full, given_back, had_no_memory, may_put_one, move_keeps, moved_none, moved_one, one_tagged, some_held}
 use Rattle.comm_rank.proofs.put_out.put_first.Goals as goal
 
 pub put-requires-clause-honest : goal.put-requires-clause-honest
@@ -25,7 +25,7 @@ returns-in-Ok-clause-put g c =
     let all : length after ≡ length before = ap length c.next_out.ensures.others ∙ length-set before c.args.to _ in
     record {
       placed = Put c.args.to batch ∷ [];
-      moved = moved_one here c.args.to batch before after old new
+      moved = moved_one here c.args.to batch before after old new (one_tagged c.args.to _ batch c.in-Some.ensures.one)
           (may_put_one here c.args.to _ before after old batch c.requires.may_put c.requires.within refl c.in-Some.ensures.one c.in-Some.ensures.loses)
           c.in-Some.ensures.loses all done.log (move_keeps here old new c.put.ensures.keeps (after_put_done here c.args.to batch old new c.put.ensures.keeps done));
       count = refl;

@@ -3,18 +3,18 @@ use Rattle.msg_codec.specs.declared.letter.Letter.{Letter}
 use Rattle.world_core.specs.Counts.{count_taken}
 use Rattle.world_core.proofs.control_letters.count_by.Goals as goal
 
-pub returns-in-Took : goal.returns-in-Took
+pub returns-in-Put : goal.returns-in-Put
 unfolding count_taken
-returns-in-Took c =
-    let same : nat_eq c.in-Took.from c.args.rank ≡ true = eq-eqb _ _ c.if-from-rank.true in
-    rw (c.in-Took.is, same, append-nil {A = Letter}) c.count_in.ensures
+returns-in-Put c = rw c.in-Put.is refl
 
-pub returns-in_default : goal.returns-in_default
+pub returns-then-from-rank : goal.returns-then-from-rank
 unfolding count_taken
-returns-in_default c =
-    let other : nat_eq c.in-Took.from c.args.rank ≡ false = ne_eqb _ _ c.if-from-rank.false in
+returns-then-from-rank c =
+    let other : nat_eq c.in-Took.from c.args.rank ≡ false = ne_eqb _ _ c.if-from-rank.true in
     rw (c.in-Took.is, other) refl
 
-pub returns-in_default-2 : goal.returns-in_default-2
+pub returns-else-from-rank : goal.returns-else-from-rank
 unfolding count_taken
-returns-in_default-2 c = rw c.in_default.is refl
+returns-else-from-rank c =
+    let same : nat_eq c.in-Took.from c.args.rank ≡ true = eq-eqb _ _ c.if-from-rank.false in
+    rw (c.in-Took.is, same, append-nil {A = Letter}) c.count_in.ensures

@@ -1,5 +1,4 @@
-use Rattle.std.proofs.Common.{ℕ, Bool, nat_lt, length, subst, sym, ◌∙◌, ap, arith}
-use Rattle.list_facts.specs.Below.{some_below}
+use Rattle.std.proofs.Common.{ℕ, Bool, nat_lt, length, sym, ◌∙◌, arith}
 use Rattle.list_facts.proofs.Below.{all_fail, some_at}
 use Rattle.world_core.specs.Local.{to_forward}
 use Rattle.world_core.specs.Trial.{local_tried}

@@ -1,5 +1,5 @@
-use Rattle.std.proofs.Common.{◌≡◌, false, nat_lt, lt-ltb, eq-eqb, length, ne_eqb, sym, refl, ap, ◌∙◌}
-use Rattle.world_core.specs.Pairs.{pair_put, pair_taken}
+use Rattle.std.proofs.Common.{◌≡◌, false, nat_lt, lt-ltb, length, sym, ap, ◌∙◌}
+use Rattle.world_core.specs.Pairs.{pair_put}
 use Rattle.world_core.specs.Trial.{local_tried}
 use Rattle.world_core.proofs.Local.ToForward.{forwards_between, forwards_nothing, forwards_some, may_forward, no_own, none_for_itself}
 use Rattle.world_core.proofs.control_rules.holds_pair.Goals as goal

@@ -1,4 +1,4 @@
-use Rattle.std.proofs.Common.{◌≡◌, sym, ◌∙◌}
+use Rattle.std.proofs.Common.{sym, ◌∙◌}
 use Rattle.msg_codec.specs.Letter.{letter_of}
 use Rattle.world_core.specs.Trial.{local_tried}
 use Rattle.world_core.proofs.Deeds.ControlTable.{uncontrolled, wrong_table}

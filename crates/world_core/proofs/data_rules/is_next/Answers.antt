@@ -1,4 +1,4 @@
-use Rattle.std.proofs.Common.{◌≡◌, ◌+◌, true, lt-ltb, Some, length, take, slice_get, sym, ◌∙◌, arith}
+use Rattle.std.proofs.Common.{◌≡◌, ◌+◌, lt-ltb, Some, length, take, slice_get, sym, ◌∙◌, arith}
 use Rattle.msg_codec.specs.Letter.{letter_of}
 use Rattle.world_core.specs.Local.{having_put}
 use Rattle.world_core.specs.Pairs.{of_pair, pair_put, pair_taken}

@@ -1,4 +1,4 @@
-use Rattle.std.proofs.Common.{not, sym, ◌∙◌}
+use Rattle.std.proofs.Common.{sym, ◌∙◌}
 use Rattle.world_core.specs.Trial.{local_tried}
 use Rattle.world_core.proofs.Deeds.Table.{own_while_counted}
 use Rattle.world_core.proofs.data_rules.is_sent_while_counted.Goals as goal

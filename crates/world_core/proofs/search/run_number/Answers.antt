@@ -1,4 +1,4 @@
-use Rattle.std.proofs.Common.{sym, ◌∙◌, arith}
+use Rattle.std.proofs.Common.{sym, arith}
 use Rattle.msg_codec.specs.Letter.{letter_of}
 use Rattle.world_core.proofs.Pairs.Numbers.{run_number-nil}
 use Rattle.world_core.proofs.Pairs.Stepwise.{ran_next}

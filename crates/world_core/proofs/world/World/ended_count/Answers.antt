@@ -1,8 +1,8 @@
-use Rattle.std.proofs.Common.{◌≡◌, ◌+◌, ◌<◌, ◌&&◌, nat_lt, true, below_more, sym, ap, ◌∙◌, arith}
+use Rattle.std.proofs.Common.{◌+◌, ◌&&◌, nat_lt, below_more, sym, ap, ◌∙◌, arith}
 use Rattle.world_core.specs.Rounds.{agree}
 use Rattle.world_core.specs.Trial.{sums_of}
-use Rattle.world_core.specs.Wave.{is_complete, sums_at}
-use Rattle.world_core.proofs.Rounds.AtRound.{AtRound, at_ended, at_next, at_start}
+use Rattle.world_core.specs.Wave.{sums_at}
+use Rattle.world_core.proofs.Rounds.AtRound.{at_ended, at_next, at_start}
 use Rattle.world_core.proofs.Wave.EndsBarrier.{count_is}
 use Rattle.world_core.proofs.world.World.ended_count.Goals as goal
 use Rattle.world_core.proofs.world.World.ended_count.Goals.{then-ends_from, else-ends_from}

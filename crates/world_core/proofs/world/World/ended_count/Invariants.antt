@@ -1,4 +1,4 @@
-use Rattle.std.proofs.Common.{◌≡◌, ℕ, ◌<◌, ◌≤◌, true}
+use Rattle.std.proofs.Common.{◌≡◌, ℕ, ◌<◌, true}
 use Rattle.world_core.specs.Trial.{sums_of}
 use Rattle.world_core.specs.Wave.{is_complete, sums_at}
 use Rattle.world_core.proofs.Rounds.AtRound.{AtRound}

@@ -1,4 +1,4 @@
-use Rattle.std.proofs.Common.{◌≡◌, ◌+◌, ◌<◌, ◌≤◌, ◌&&◌, nat_lt, sym, ap, ◌∙◌, arith, le_trans}
+use Rattle.std.proofs.Common.{◌+◌, ◌≤◌, ◌&&◌, nat_lt, sym, ap, ◌∙◌, arith, le_trans}
 use Rattle.list_facts.proofs.Below.{row_within}
 use Rattle.world_core.specs.Rounds.{agree}
 use Rattle.world_core.specs.Trial.{sums_of}

@@ -1,8 +1,8 @@
-use Rattle.std.proofs.Common.{◌≡◌, ◌+◌, ◌<◌, add-one, refl, sym, ap, ◌∙◌, arith}
+use Rattle.std.proofs.Common.{add-one, refl, ap, arith}
 use Rattle.list_facts.specs.Sums.{sum_upto}
 use Rattle.world_core.specs.Pairs.{own_count, run_count}
 use Rattle.world_core.specs.Wave.{cut}
-use Rattle.world_core.proofs.Wave.FewBefore.{ReadBefore, read_before}
+use Rattle.world_core.proofs.Wave.FewBefore.{read_before}
 use Rattle.world_core.proofs.world.World.sums_at.Goals as goal
 
 pub overflow_add-sums : goal.overflow_add-sums

@@ -1,0 +1,4 @@
+pub mod Grown
+pub mod Kept
+pub mod Turned
+pub mod Sent

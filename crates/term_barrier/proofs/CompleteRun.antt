@@ -1,0 +1,2 @@
+pub mod FromAccounts
+pub mod Arrived

@@ -1,0 +1,6 @@
+pub mod Merge
+pub mod Cuts
+pub mod Account
+pub mod CountedPlace
+pub mod CompleteRun
+pub mod Passed

@@ -1,0 +1,3 @@
+pub mod FromWorld
+pub mod NothingAfter
+pub mod Folded

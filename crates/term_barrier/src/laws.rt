@@ -1,0 +1,159 @@
+//! What the logs of ranks that pass barriers add up to: a complete run of the letters that ranks send by themselves.
+//! Each law is the contract of a function that does nothing. The laws speak of logs alone, whatever carries the letters,
+//! and of any handler.
+//!
+//! A rank has an account of its own log. It begins with one, and its turns, its own letters, its Counts and the ends of
+//! its phases keep it. Once all ranks have passed their last barrier, their accounts and quiet cuts make a complete run.
+ghost use Rattle.std.specs.Prelude.{◌≡◌, ◌+◌, ◌<◌, ◌≤◌, ℕ, suc, false, List, [], ◌∷◌, ◌++◌, drop, length, sum_by};
+ghost use Rattle.std.specs.List.{AllByRecursion};
+ghost use Rattle.list_facts.specs.Sublist.{IsSublist};
+ghost use Rattle.msg_codec.specs.declared.letter.Letter.{Letter};
+ghost use Rattle.world_core.specs.declared.entry.Entry.{Entry};
+ghost use Rattle.world_core.specs.Counts.{before_count};
+ghost use Rattle.world_core.specs.Local.{Local};
+ghost use Rattle.world_core.specs.Log.{letters_put, letters_taken};
+ghost use Rattle.world_core.specs.Modest.{IsModest};
+ghost use Rattle.world_core.specs.Pairs.{arrived, is_data, of_pair};
+ghost use Rattle.world_core.specs.Sound.{IsSound};
+ghost use Rattle.world_core.specs.Wave.{IsQuiet};
+ghost use Rattle.world_core.specs.World.{Logs, log_of};
+ghost use Rattle.comm_rank.specs.declared.turn.Turn.{Turn};
+ghost use Rattle.comm_rank.specs.Agrees.{Agrees};
+ghost use Rattle.comm_rank.specs.Fold.{Applies, fold_from};
+ghost use Rattle.comm_rank.specs.Rank.{HasSent, IsSameRank, Rank, held_letters};
+ghost use Rattle.comm_rank.specs.Turns.{Turned};
+ghost use Rattle.term_barrier.specs.Account.{Account, IsUpToDate, RankHandler, handler_at, handler_of, with_more};
+ghost use Rattle.term_barrier.specs.CompleteRun.{IsCompleteRun, OwnLetters, earlier};
+ghost use Rattle.term_barrier.specs.CountedPlace.{IsCountedPlace, MovesNone};
+ghost use Rattle.term_barrier.specs.Cuts.{AreQuietCuts, IsQuietCut, arrivals_of, phase_part, phase_start};
+ghost use Rattle.term_barrier.specs.Merge.{IsMerge};
+ghost use Rattle.term_barrier.specs.Passed.{HasPassed, LevelsRise, TookPrefixes};
+
+use comm_rank::Handler;
+
+/// A merge has the elements of both lists, each in its own order, and no others: whatever weights elements have, those
+/// of the merge add up to those of both. A merge with no elements of the one list is the other.
+pub fn a_merge_has_both_lists_in_order<X>()
+    ensures one { (one other merged : List X) → IsMerge one other merged → IsSublist one merged }
+    ensures other { (one other merged : List X) → IsMerge one other merged → IsSublist other merged }
+    ensures weights { (weight : X → ℕ) (one other merged : List X) → IsMerge one other merged →
+        sum_by weight merged ≡ sum_by weight one + sum_by weight other }
+    ensures with_none { (other merged : List X) → IsMerge [] other merged → merged ≡ other }
+{}
+
+/// A rank with an empty log that holds no letter of its own has an account: in phase 0, without own letters.
+pub fn a_fresh_rank_has_an_account<C>()
+    ensures { (handler : RankHandler C) (cut : ℕ → ℕ) (held : List Letter) →
+        ((to : ℕ) → of_pair handler.here to held ≡ []) → Account handler (λ phase to. []) cut 0 held [] }
+{}
+
+/// A rank that agrees with its log is up to date with it, and is so again after each turn.
+pub fn a_rank_is_up_to_date_with_its_log<H: Handler>()
+    ensures agrees { (me : Rank H) (log : List Entry) → Agrees H.apply H.start me log →
+        IsUpToDate H.apply H.start me log }
+    ensures turned { (old new : Rank H) (before after : List Entry) (turn : Turn) →
+        IsUpToDate H.apply H.start old before → IsSameRank old new → Turned H.apply old new before after turn →
+        IsUpToDate H.apply H.start new after }
+{}
+
+/// A turn keeps the account of its rank and each counted place: it sends what the handler gave, and no own letters.
+pub fn a_turn_keeps_the_account<H: Handler>()
+    ensures account { (own : ℕ → ℕ → List Letter) (cut : ℕ → ℕ) (phase : ℕ)
+        (old new : Rank H) (before after : List Entry) (turn : Turn) →
+        IsUpToDate H.apply H.start old before → IsSameRank old new → Turned H.apply old new before after turn →
+        Account (handler_of H.apply H.start old) own cut phase (held_letters old) before →
+        Account (handler_of H.apply H.start new) own cut phase (held_letters new) after }
+    ensures counted { (own : ℕ → List Letter) (begin place : ℕ)
+        (old new : Rank H) (before after : List Entry) (turn : Turn) →
+        IsUpToDate H.apply H.start old before → IsSameRank old new → Turned H.apply old new before after turn →
+        IsCountedPlace (handler_of H.apply H.start old) own begin place (held_letters old) before →
+        IsCountedPlace (handler_of H.apply H.start new) own begin place (held_letters new) after }
+{}
+
+/// An own letter that a rank sends is one more of the present phase.
+pub fn an_own_letter_is_one_more_of_its_phase<H: Handler>()
+    ensures { (own : ℕ → ℕ → List Letter) (cut : ℕ → ℕ) (phase : ℕ)
+        (old new : Rank H) (l : Letter) (log : List Entry) → HasSent old new l →
+        Account (handler_of H.apply H.start old) own cut phase (held_letters old) log →
+        Account (handler_of H.apply H.start new) (with_more old.here own phase (l ∷ [])) cut phase (held_letters new) log }
+{}
+
+/// Entries that move no letter of a rank, as those of Counts and Totals, keep its account and each counted place.
+pub fn control_letters_keep_the_account<C>()
+    ensures none { (here : ℕ) (entries : List Entry) →
+        AllByRecursion (λ l. is_data l ≡ false) (letters_put entries) →
+        AllByRecursion (λ l. is_data l ≡ false) (letters_taken entries) → MovesNone here entries }
+    ensures account { (handler : RankHandler C) (own : ℕ → ℕ → List Letter) (cut : ℕ → ℕ) (phase : ℕ)
+        (held : List Letter) (log entries : List Entry) → MovesNone handler.here entries →
+        Account handler own cut phase held log → Account handler own cut phase held (log ++ entries) }
+    ensures counted { (handler : RankHandler C) (own : ℕ → List Letter) (begin place : ℕ)
+        (held : List Letter) (log entries : List Entry) → MovesNone handler.here entries →
+        IsCountedPlace handler own begin place held log →
+        IsCountedPlace handler own begin place held (log ++ entries) }
+{}
+
+/// A Count that a rank puts while it holds no letter of its own is put at a counted place. The entries are that of the
+/// Count and any that move no letter of the rank either.
+pub fn a_count_with_nothing_held_is_at_a_counted_place<C>()
+    ensures { (handler : RankHandler C) (own : ℕ → ℕ → List Letter) (cut : ℕ → ℕ) (phase : ℕ)
+        (held : List Letter) (log entries : List Entry) →
+        ((to : ℕ) → of_pair handler.here to held ≡ []) → MovesNone handler.here entries →
+        Account handler own cut phase held log →
+        IsCountedPlace handler (own phase) (phase_start cut phase) (length log) held (log ++ entries) }
+{}
+
+/// A rank that leaves a barrier goes on to its next phase: where the cut of its phase is a counted place, the phase ends
+/// there, and the next begins without own letters. The account of a phase says nothing of later own letters, nor of the
+/// cuts of this phase and later ones.
+pub fn a_counted_place_ends_a_phase<C>()
+    ensures next { (handler : RankHandler C) (own : ℕ → ℕ → List Letter) (cut : ℕ → ℕ) (phase : ℕ)
+        (held : List Letter) (log : List Entry) → Account handler own cut phase held log →
+        IsCountedPlace handler (own phase) (phase_start cut phase) (cut phase) held log →
+        ((to : ℕ) → own (suc phase) to ≡ []) → Account handler own cut (suc phase) held log }
+    ensures same { (handler : RankHandler C) (own other : ℕ → ℕ → List Letter) (cut other_cut : ℕ → ℕ) (phase : ℕ)
+        (held : List Letter) (log : List Entry) → ((k : ℕ) → k < phase → other_cut k ≡ cut k) →
+        ((k to : ℕ) → k ≤ phase → other k to ≡ own k to) →
+        Account handler own cut phase held log → Account handler other other_cut phase held log }
+{}
+
+/// Worlds give what the laws below ask for. The cut at a quiet round is quiet, by the places of its Counts. In a sound
+/// world, what was taken is a prefix of what was put. What a modest log took came from ranks of the world.
+pub fn worlds_give_what_these_laws_ask()
+    ensures quiet { (world : Logs) (q : ℕ) → IsQuiet world q →
+        IsQuietCut world.layout.ranks (log_of world) (λ rank. length (before_count q (log_of world rank))) }
+    ensures took { (world : Logs) → IsSound world → TookPrefixes (log_of world) }
+    ensures senders { (me : Local) → IsModest me →
+        AllByRecursion (λ l. l.from < me.layout.ranks) (arrived me.here me.log) }
+{}
+
+/// Where every rank has an account of all phases, and the cut that ends each phase is quiet, the own letters have a
+/// complete run: what arrived in each phase.
+pub fn accounts_and_quiet_cuts_make_a_complete_run<C>()
+    ensures { (apply : Applies C) (ranks phases : ℕ) (start : ℕ → C) (own : OwnLetters)
+        (cuts : ℕ → ℕ → ℕ) (held : ℕ → List Letter) (logs : ℕ → List Entry) →
+        ((rank : ℕ) → rank < ranks →
+        HasPassed (handler_at apply ranks start rank) (own rank) (cuts rank) phases (held rank) (logs rank)) →
+        AreQuietCuts ranks phases logs cuts →
+        IsCompleteRun apply ranks phases start own (arrivals_of logs cuts) }
+{}
+
+/// Where no rank sent an own letter after its last cut, nothing arrived after it, if each letter that a handler gives has
+/// a higher level than the letter by which it gave it. Without levels, letters might give one another after that cut.
+pub fn nothing_arrives_after_the_last_cut<C>()
+    ensures { (apply : Applies C) (level : Letter → ℕ) (ranks phases : ℕ) (start : ℕ → C) (own : OwnLetters)
+        (cuts : ℕ → ℕ → ℕ) (held : ℕ → List Letter) (logs : ℕ → List Entry) →
+        ((rank : ℕ) → rank < ranks →
+        HasPassed (handler_at apply ranks start rank) (own rank) (cuts rank) phases (held rank) (logs rank)) →
+        ((rank to : ℕ) → rank < ranks → own rank phases to ≡ []) →
+        AreQuietCuts ranks phases logs cuts → TookPrefixes logs → LevelsRise apply level →
+        (rank : ℕ) → rank < ranks → arrived rank (drop (phase_start (cuts rank) phases) (logs rank)) ≡ [] }
+{}
+
+/// Where nothing arrived at a rank after its last cut, its contents are the fold of what arrived in all phases.
+pub fn contents_are_the_fold_of_all_phases<H: Handler>()
+    ensures { (me : Rank H) (log : List Entry) (own : ℕ → ℕ → List Letter) (cut : ℕ → ℕ) (phases : ℕ) →
+        IsUpToDate H.apply H.start me log → Account (handler_of H.apply H.start me) own cut phases (held_letters me) log →
+        arrived me.here (drop (phase_start cut phases) log) ≡ [] →
+        me.contents ≡ fold_from H.apply me.here me.layout.ranks (H.start me.contents)
+        (earlier (λ phase. arrived me.here (phase_part cut phase log)) phases) }
+{}

@@ -1,0 +1,43 @@
+ghost use Rattle.std.specs.Prelude.{[], refl};
+
+use super::laws::*;
+use comm_rank::{Handler, Outgoing};
+use msg_codec::LetterRef;
+use std::alloc::AllocError;
+
+// A handler that keeps nothing and sends nothing.
+#[derive(Drop)]
+struct Silent;
+
+impl Handler for Silent {
+    ghost apply = { λ contents _ _ _. (contents, []) };
+
+    ghost start = { λ contents. contents };
+
+    fn run(
+        &mut self,
+        _here: u32,
+        _letter: LetterRef<'_>,
+        _out: &mut Outgoing,
+    ) -> Result<(), AllocError> {
+        Ok(())
+    }
+
+    ghost keeps_start = { λ _ _ _ _. refl };
+}
+
+#[test]
+fn the_laws_can_be_cited() {
+    a_merge_has_both_lists_in_order::<u64>();
+    a_fresh_rank_has_an_account::<u64>();
+    a_rank_is_up_to_date_with_its_log::<Silent>();
+    a_turn_keeps_the_account::<Silent>();
+    an_own_letter_is_one_more_of_its_phase::<Silent>();
+    control_letters_keep_the_account::<u64>();
+    a_count_with_nothing_held_is_at_a_counted_place::<u64>();
+    a_counted_place_ends_a_phase::<u64>();
+    worlds_give_what_these_laws_ask();
+    accounts_and_quiet_cuts_make_a_complete_run::<u64>();
+    nothing_arrives_after_the_last_cut::<u64>();
+    contents_are_the_fold_of_all_phases::<Silent>();
+}
