@@ -17,9 +17,9 @@ IsServed handler log = (c to : ℕ) → c < counts log →
     (of_pair handler.here to (handed_from handler.apply handler.here handler.ranks handler.start (arrived handler.here (before_count c log))))
     (pair_put handler.here to (before_count c log))
 
--- At the cut of a round all is settled. The letters from one rank to another that were put before the cut arrived there
--- before it, each once and in order, and no others did. Whatever a handler gave for a rank, by letters that arrived before
--- the cut, is among the letters that arrived at that rank from the handler's before the cut.
+-- At the cut of a round all is settled. The letters from a rank to a rank that were put before the cut arrived before it,
+-- each once and in order, and no others did. Whatever the handler of a rank gave for a rank, by letters that arrived before
+-- the cut, is among what arrived there from that rank before the cut, in order.
 pub record IsSettledCut {C : Type 0} (apply : Applies C) (start : ℕ → C) (world : Logs) (q : ℕ) : Type 0 where
   pub letters : (from to : ℕ) → pair_put from to (cut world q from) ≡ pair_taken from to (cut world q to)
   pub offspring : (from to : ℕ) → from < world.layout.ranks →

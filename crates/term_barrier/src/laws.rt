@@ -4,6 +4,9 @@
 //!
 //! A rank has an account of its own log. It begins with one, and its turns, its own letters, its Counts and the ends of
 //! its phases keep it. Once all ranks have passed their last barrier, their accounts and quiet cuts make a complete run.
+//!
+//! A rank learns from the Totals that it took at which round it left a barrier. That round is the same for all ranks, and
+//! gives each the place of the barrier's quiet cut in its own log.
 ghost use Rattle.std.specs.Prelude.{◌≡◌, ◌+◌, ◌<◌, ◌≤◌, ℕ, suc, pred, false, List, [], ◌∷◌, ◌++◌, drop, length, take, sum_by};
 ghost use Rattle.std.specs.List.{AllByRecursion};
 ghost use Rattle.list_facts.specs.Sublist.{IsSublist};
@@ -212,9 +215,9 @@ pub fn barriers_end_at_quiet_cuts()
         phase_start (left_cuts world rounds rank) barrier ≤ left_cuts world rounds rank barrier }
 {}
 
-/// The theorem of a barrier. Once any rank has left it, all is settled at its cut: the letters from one rank to another
-/// that were put before the cut arrived there before it, and no others. Where each log is served, so did all offspring:
-/// what a handler gave by letters that arrived before the cut.
+/// The theorem of a barrier. Once any rank has left it, all is settled at its cut, where each log is served: the letters
+/// from a rank to a rank that were put before the cut arrived before it, and no others, and so did all offspring, which is
+/// what handlers gave by letters that arrived before the cut.
 pub fn all_is_settled_where_a_barrier_ended<C>()
     ensures { (apply : Applies C) (start : ℕ → C) (world : Logs) (rank barrier round : ℕ) → IsSound world →
         HasLeft (local world rank) barrier round →
@@ -225,7 +228,7 @@ pub fn all_is_settled_where_a_barrier_ended<C>()
 
 /// A worked case: a rank that is alone sent itself a letter, which ran, and then counted twice. It has left barrier 0 at
 /// round 1 and not at round 0, and the cut is after the two entries of that letter.
-#[tactic(auto, unfolding(world_core::specs::Counts::total_taken, world_core::specs::Rounds::rounds_known, world_core::specs::Rounds::first_round, world_core::specs::Rounds::ended_below, list_facts::specs::Below::in_a_row, msg_codec::specs::Control::spelled_counts, msg_codec::specs::Control::round_of, msg_codec::specs::Control::sent_of, msg_codec::specs::Control::run_of))]
+#[tactic(auto, unfolding(list_facts::specs::Below::in_a_row, msg_codec::specs::Control::spelled_counts, msg_codec::specs::Control::round_of, msg_codec::specs::Control::sent_of, msg_codec::specs::Control::run_of, world_core::specs::Counts::total_taken, world_core::specs::Rounds::rounds_known, world_core::specs::Rounds::first_round, world_core::specs::Rounds::ended_below))]
 pub fn a_rank_alone_leaves_at_its_second_round()
     ensures left { HasLeft lone_rank 0 1 }
     ensures not_before { HasLeft lone_rank 0 0 → ⊥ }

@@ -2,7 +2,6 @@
 use Rattle.std.proofs.Common.{◌≡◌, ℕ, ◌≤◌, ◌<◌, true, is_some, Option, Some, None, refl, sym, ◌∙◌, arith}
 use Rattle.list_facts.proofs.Below.{row_passes}
 use Rattle.msg_codec.specs.declared.letter.Letter.{Letter}
-use Rattle.world_core.specs.declared.entry.Entry.{Entry}
 use Rattle.world_core.specs.Counts.{total_taken}
 use Rattle.world_core.specs.Local.{Local}
 use Rattle.world_core.specs.Rounds.{rounds_known, sums_in, sums_told}

@@ -1,5 +1,5 @@
 -- One round ends each barrier of a world, and the rounds rise with the barriers.
-use Rattle.std.proofs.Common.{◌≡◌, ℕ, suc, ◌≤◌, ◌<◌, true, nat_lt, ltb-true, refl, arith, inl, inr, ap, sym, ◌∙◌}
+use Rattle.std.proofs.Common.{◌≡◌, ℕ, suc, ◌≤◌, ◌<◌, true, nat_lt, ltb-true, refl, arith, inl, inr, ap, ◌∙◌}
 use Rattle.std.proofs.lemmas.Bool.{cases_lt}
 use Rattle.list_facts.proofs.Tests.{and_first}
 use Rattle.world_core.specs.Rounds.{Sums, ended_below, ends, first_round}

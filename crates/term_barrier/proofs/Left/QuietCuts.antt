@@ -1,5 +1,5 @@
 -- The cuts of the barriers that all ranks have left are quiet, in order and within the logs.
-use Rattle.std.proofs.Common.{◌≡◌, ℕ, zero, suc, pred, ◌≤◌, ◌<◌, true, nat_lt, ltb-true, List, length, take, refl, sym, subst, le_trans, inl, inr, arith}
+use Rattle.std.proofs.Common.{◌≡◌, ℕ, zero, suc, pred, ◌≤◌, ◌<◌, true, nat_lt, ltb-true, List, length, take, sym, subst, le_trans, inl, inr, arith}
 use Rattle.std.proofs.lemmas.Bool.{cases_lt}
 use Rattle.list_facts.proofs.Prefix.{prefix_is_take, prefix_length}
 use Rattle.list_facts.proofs.Tests.{and_first}
@@ -13,7 +13,7 @@ use Rattle.world_core.specs.Wave.{EndsBarrier, IsComplete, IsQuiet, sums_at}
 use Rattle.world_core.specs.World.{Logs, local, log_of}
 use Rattle.world_core.proofs.Counts.BeforeCount.{before_next, before_part}
 use Rattle.term_barrier.specs.Cuts.{AreQuietCuts, phase_start}
-use Rattle.term_barrier.specs.Left.{HasLeft, HaveLeft, left_cut, left_cuts}
+use Rattle.term_barrier.specs.Left.{HaveLeft, left_cut, left_cuts}
 use Rattle.term_barrier.proofs.Left.Known.{left_ends}
 use Rattle.term_barrier.proofs.Left.OneRound.{one_round, rounds_rise}
 use Rattle.term_barrier.proofs.Passed.FromWorld.{quiet_round}

@@ -1,6 +1,6 @@
 -- Barriers end alike where the sums up to a round are the same.
 use Rattle.std.proofs.Common.{◌≡◌, ℕ, zero, suc, pred, ◌≤◌, ◌<◌, refl, arith}
-use Rattle.world_core.specs.Rounds.{Sums, ended_below, ends, ends_from, first_round, next_first}
+use Rattle.world_core.specs.Rounds.{Sums, ended_below, ends, ends_from, first_round}
 
 pub pred_within : (q : ℕ) → pred q ≤ q
 pred_within zero = omega arith

@@ -1,5 +1,5 @@
 -- Where a barrier ended and each log is served, what handlers gave by letters before its cut arrived before it too.
-use Rattle.std.proofs.Common.{◌≡◌, ℕ, pred, ◌<◌, sym, subst, ◌∙◌, arith}
+use Rattle.std.proofs.Common.{ℕ, pred, ◌<◌, sym, subst, ◌∙◌, arith}
 use Rattle.list_facts.specs.Sublist.{IsSublist}
 use Rattle.world_core.specs.Counts.{counts}
 use Rattle.world_core.specs.Log.{letters_taken}
