@@ -6,7 +6,7 @@ use Rattle.std.proofs.lemmas.List.Elements.{filter_map-append}
 use Rattle.msg_codec.specs.declared.letter.Letter.{Letter}
 use Rattle.world_core.specs.declared.entry.Entry.{Entry}
 use Rattle.world_core.specs.declared.entry.Entry.TheVariants.{Put, Took}
-use Rattle.world_core.specs.Log.{batches_taken, letters_taken, took_from}
+use Rattle.world_core.specs.Log.{IsPut, batches_taken, letters_taken, took_from}
 use Rattle.world_core.specs.Pairs.{for_rank, of_pair}
 use Rattle.world_core.specs.Post.{SameFulls, SameMisses, PostState, is_full_in}
 use Rattle.world_core.specs.Rising.{Rose}
@@ -17,7 +17,7 @@ use Rattle.comm_rank.specs.declared.turn.Turn.{Turn}
 use Rattle.comm_rank.specs.Moves.{PutOut}
 use Rattle.comm_rank.specs.Rank.{Rank, halted, handed, sent_to}
 use Rattle.comm_rank.specs.Running.{TookAll}
-use Rattle.comm_rank.specs.Turns.{CutOff, FirstFull, FullAtFirst, IsCause, IsPut, LookedAt, NoneOrFull, Turned, WasCut}
+use Rattle.comm_rank.specs.Turns.{CutOff, FirstFull, FullAtFirst, IsCause, LookedAt, NoneOrFull, Turned, WasCut}
 use Rattle.comm_rank.proofs.Turns.Faults.{if_full}
 
 none_taken : (from : ℕ) (placed : List Entry) → AllByRecursion IsPut placed → batches_taken from placed ≡ []
@@ -46,7 +46,7 @@ module _ {C : Type 0} (apply : Applies C) (old mid new : Rank C) (before between
         placed = placed;
         run = run;
         given = [];
-        gained = record { log = whole_log; takes = first.gained.takes; in_order = first.gained.in_order; puts = out.puts };
+        gained = record { log = whole_log; takes = first.gained.takes; in_order = first.gained.in_order; puts = out.puts; data_alone = out.data_alone };
         arrived = sym (append-nil run) ∙ ap (λ xs. run ++ for_rank old.here xs) (sym waits);
         ran = out.ran ∙ first.advanced.ran;
         begun = inl (still (λ me. me.contents) ∙ first.advanced.contents, refl);
@@ -59,7 +59,7 @@ module _ {C : Type 0} (apply : Applies C) (old mid new : Rank C) (before between
   turned turn t p = record {
     taken = first.taken;
     placed = placed;
-    gained = record { log = whole_log; takes = first.gained.takes; in_order = first.gained.in_order; puts = out.puts };
+    gained = record { log = whole_log; takes = first.gained.takes; in_order = first.gained.in_order; puts = out.puts; data_alone = out.data_alone };
     advanced = record {
       ran = out.ran ∙ first.advanced.ran;
       contents = still (λ me. me.contents) ∙ first.advanced.contents;
