@@ -4,7 +4,10 @@
 //!
 //! A rank has an account of its own log. It begins with one, and its turns, its own letters, its Counts and the ends of
 //! its phases keep it. Once all ranks have passed their last barrier, their accounts and quiet cuts make a complete run.
-ghost use Rattle.std.specs.Prelude.{◌≡◌, ◌+◌, ◌<◌, ◌≤◌, ℕ, suc, false, List, [], ◌∷◌, ◌++◌, drop, length, sum_by};
+//!
+//! A rank learns from the Totals that it took at which round it left a barrier. That round is the same for all ranks, and
+//! gives each the place of the barrier's quiet cut in its own log.
+ghost use Rattle.std.specs.Prelude.{◌≡◌, ◌+◌, ◌<◌, ◌≤◌, ℕ, suc, pred, false, List, [], ◌∷◌, ◌++◌, drop, length, take, sum_by};
 ghost use Rattle.std.specs.List.{AllByRecursion};
 ghost use Rattle.list_facts.specs.Sublist.{IsSublist};
 ghost use Rattle.msg_codec.specs.declared.letter.Letter.{Letter};
@@ -15,8 +18,9 @@ ghost use Rattle.world_core.specs.Log.{letters_put, letters_taken};
 ghost use Rattle.world_core.specs.Modest.{IsModest};
 ghost use Rattle.world_core.specs.Pairs.{arrived, is_data, of_pair};
 ghost use Rattle.world_core.specs.Sound.{IsSound};
-ghost use Rattle.world_core.specs.Wave.{IsQuiet};
-ghost use Rattle.world_core.specs.World.{Logs, log_of};
+ghost use Rattle.world_core.specs.Rounds.{rounds_known, sums_told};
+ghost use Rattle.world_core.specs.Wave.{EndsBarrier, IsComplete, IsQuiet, sums_at};
+ghost use Rattle.world_core.specs.World.{Logs, local, log_of};
 ghost use Rattle.comm_rank.specs.declared.turn.Turn.{Turn};
 ghost use Rattle.comm_rank.specs.Agrees.{Agrees};
 ghost use Rattle.comm_rank.specs.Fold.{Applies, fold_from};
@@ -26,8 +30,11 @@ ghost use Rattle.term_barrier.specs.Account.{Account, IsUpToDate, RankHandler, h
 ghost use Rattle.term_barrier.specs.CompleteRun.{IsCompleteRun, OwnLetters, earlier};
 ghost use Rattle.term_barrier.specs.CountedPlace.{IsCountedPlace, MovesNone};
 ghost use Rattle.term_barrier.specs.Cuts.{AreQuietCuts, IsQuietCut, arrivals_of, phase_part, phase_start};
+ghost use Rattle.term_barrier.specs.Left.{HasLeft, HaveLeft, gained, left_cut, left_cuts};
 ghost use Rattle.term_barrier.specs.Merge.{IsMerge};
 ghost use Rattle.term_barrier.specs.Passed.{HasPassed, LevelsRise, TookPrefixes};
+ghost use Rattle.term_barrier.specs.Served.{IsServed, IsSettledCut};
+ghost use Rattle.term_barrier.specs.Worked.{lone_rank};
 
 use comm_rank::Handler;
 
@@ -156,4 +163,74 @@ pub fn contents_are_the_fold_of_all_phases<H: Handler>()
         arrived me.here (drop (phase_start cut phases) log) ≡ [] →
         me.contents ≡ fold_from H.apply me.here me.layout.ranks (H.start me.contents)
         (earlier (λ phase. arrived me.here (phase_part cut phase log)) phases) }
+{}
+
+/// What a rank was told of a round that it knows is so: every rank put its Count of that round, and the sums are those of
+/// the world. So the round at which a rank left a barrier ends that barrier in the world.
+pub fn what_a_rank_was_told_is_so()
+    ensures complete { (world : Logs) (rank q : ℕ) → IsSound world → q < rounds_known rank (log_of world rank) →
+        IsComplete world q }
+    ensures sums { (world : Logs) (rank q : ℕ) → IsSound world → q < rounds_known rank (log_of world rank) →
+        sums_told rank (log_of world rank) q ≡ sums_at world q }
+    ensures left { (world : Logs) (rank barrier round : ℕ) → IsSound world →
+        HasLeft (local world rank) barrier round → EndsBarrier world barrier round }
+{}
+
+/// One round ends each barrier, so all ranks that left a barrier left it at the same round. The rounds rise with the
+/// barriers, and a barrier has at least two.
+pub fn one_round_ends_each_barrier()
+    ensures one { (world : Logs) (barrier q p : ℕ) →
+        EndsBarrier world barrier q → EndsBarrier world barrier p → q ≡ p }
+    ensures same { (world : Logs) (one other barrier q p : ℕ) → IsSound world →
+        HasLeft (local world one) barrier q → HasLeft (local world other) barrier p → q ≡ p }
+    ensures rise { (world : Logs) (barrier later q p : ℕ) →
+        EndsBarrier world barrier q → EndsBarrier world later p → barrier < later → suc q < p }
+{}
+
+/// A rank that has left a barrier has left each earlier one too, and has left it for good: whatever its log gains, it left
+/// that barrier at that round, and the cut stays where it is.
+pub fn a_rank_leaves_a_barrier_for_good()
+    ensures earlier { (me : Local) (barrier round earlier : ℕ) → HasLeft me barrier round → earlier < barrier →
+        (q : ℕ) × (q < round) × HasLeft me earlier q }
+    ensures stays { (me : Local) (more : List Entry) (barrier round : ℕ) → HasLeft me barrier round →
+        HasLeft (gained me more) barrier round }
+    ensures cut_stays { (world : Logs) (rank barrier round : ℕ) (more : List Entry) → IsSound world →
+        rank < world.layout.ranks → HasLeft (local world rank) barrier round →
+        left_cut (gained (local world rank) more) round ≡ left_cut (local world rank) round }
+{}
+
+/// A barrier that ended has a quiet cut, at the round before the one that ends it. So the cuts of barriers that every rank
+/// has left are quiet, by the places that each rank knows from the rounds at which it left. These are in order, and within
+/// the logs.
+pub fn barriers_end_at_quiet_cuts()
+    ensures quiet { (world : Logs) (barrier round : ℕ) → IsSound world → EndsBarrier world barrier round →
+        (0 < round) × IsQuiet world (pred round) }
+    ensures part { (me : Local) (round : ℕ) → take (left_cut me round) me.log ≡ before_count (pred round) me.log }
+    ensures within { (me : Local) (round : ℕ) → left_cut me round ≤ length me.log }
+    ensures cuts { (world : Logs) (barriers : ℕ) (rounds : ℕ → ℕ → ℕ) → IsSound world →
+        HaveLeft world barriers rounds →
+        AreQuietCuts world.layout.ranks barriers (log_of world) (left_cuts world rounds) }
+    ensures order { (world : Logs) (barriers : ℕ) (rounds : ℕ → ℕ → ℕ) → IsSound world →
+        HaveLeft world barriers rounds → (rank barrier : ℕ) → rank < world.layout.ranks → barrier < barriers →
+        phase_start (left_cuts world rounds rank) barrier ≤ left_cuts world rounds rank barrier }
+{}
+
+/// The theorem of a barrier. Once any rank has left it, all is settled at its cut, where each log is served: the letters
+/// from a rank to a rank that were put before the cut arrived before it, and no others, and so did all offspring, which is
+/// what handlers gave by letters that arrived before the cut.
+pub fn all_is_settled_where_a_barrier_ended<C>()
+    ensures { (apply : Applies C) (start : ℕ → C) (world : Logs) (rank barrier round : ℕ) → IsSound world →
+        HasLeft (local world rank) barrier round →
+        ((one : ℕ) → one < world.layout.ranks →
+        IsServed (handler_at apply world.layout.ranks start one) (log_of world one)) →
+        IsSettledCut apply start world (pred round) }
+{}
+
+/// A worked case: a rank that is alone sent itself a letter, which ran, and then counted twice. It has left barrier 0 at
+/// round 1 and not at round 0, and the cut is after the two entries of that letter.
+#[tactic(auto, unfolding(list_facts::specs::Below::in_a_row, msg_codec::specs::Control::spelled_counts, msg_codec::specs::Control::round_of, msg_codec::specs::Control::sent_of, msg_codec::specs::Control::run_of, world_core::specs::Counts::total_taken, world_core::specs::Rounds::rounds_known, world_core::specs::Rounds::first_round, world_core::specs::Rounds::ended_below))]
+pub fn a_rank_alone_leaves_at_its_second_round()
+    ensures left { HasLeft lone_rank 0 1 }
+    ensures not_before { HasLeft lone_rank 0 0 → ⊥ }
+    ensures cut { left_cut lone_rank 1 ≡ 2 }
 {}

@@ -40,4 +40,10 @@ fn the_laws_can_be_cited() {
     accounts_and_quiet_cuts_make_a_complete_run::<u64>();
     nothing_arrives_after_the_last_cut::<u64>();
     contents_are_the_fold_of_all_phases::<Silent>();
+    what_a_rank_was_told_is_so();
+    one_round_ends_each_barrier();
+    a_rank_leaves_a_barrier_for_good();
+    barriers_end_at_quiet_cuts();
+    all_is_settled_where_a_barrier_ended::<u64>();
+    a_rank_alone_leaves_at_its_second_round();
 }

@@ -1,0 +1,6 @@
+pub mod SameSums
+pub mod Known
+pub mod OneRound
+pub mod Earlier
+pub mod Grown
+pub mod QuietCuts
