@@ -4,3 +4,4 @@ pub mod OneRound
 pub mod Earlier
 pub mod Grown
 pub mod QuietCuts
+pub mod Since

@@ -14,6 +14,10 @@ pub record HasLeft (me : Local) (barrier round : ℕ) : Type 0 where
   pub ended : ends (sums_told me.here me.log) round ≡ true
   pub number : ended_below (sums_told me.here me.log) round ≡ barrier
 
+-- how many barriers a rank has left
+abbrev pub barriers_left : Local → ℕ
+barriers_left me = ended_below (sums_told me.here me.log) (rounds_known me.here me.log)
+
 -- every rank has left each of so many barriers, at these rounds, by rank and barrier
 abbrev pub HaveLeft : Logs → ℕ → (ℕ → ℕ → ℕ) → Type 0
 HaveLeft world barriers rounds =

@@ -5,5 +5,6 @@ pub mod Account
 pub mod CountedPlace
 pub mod Passed
 pub mod Left
+pub mod Polls
 pub mod Served
 pub mod Worked

@@ -7,18 +7,19 @@
 //!
 //! A rank learns from the Totals that it took at which round it left a barrier. That round is the same for all ranks, and
 //! gives each the place of the barrier's quiet cut in its own log.
-ghost use Rattle.std.specs.Prelude.{◌≡◌, ◌+◌, ◌<◌, ◌≤◌, ℕ, suc, pred, false, List, [], ◌∷◌, ◌++◌, drop, length, take, sum_by};
+ghost use Rattle.std.specs.Prelude.{◌≡◌, ◌+◌, ◌<◌, ◌≤◌, ℕ, suc, pred, false, IsTrue, List, [], ◌∷◌, ◌++◌, drop, length, take, sum_by};
 ghost use Rattle.std.specs.List.{AllByRecursion};
 ghost use Rattle.list_facts.specs.Sublist.{IsSublist};
 ghost use Rattle.msg_codec.specs.declared.letter.Letter.{Letter};
 ghost use Rattle.world_core.specs.declared.entry.Entry.{Entry};
-ghost use Rattle.world_core.specs.Counts.{before_count};
+ghost use Rattle.world_core.specs.ControlRules.{is_counted};
+ghost use Rattle.world_core.specs.Counts.{before_count, counts};
 ghost use Rattle.world_core.specs.Local.{Local};
 ghost use Rattle.world_core.specs.Log.{letters_put, letters_taken};
 ghost use Rattle.world_core.specs.Modest.{IsModest};
 ghost use Rattle.world_core.specs.Pairs.{arrived, is_data, of_pair};
 ghost use Rattle.world_core.specs.Sound.{IsSound};
-ghost use Rattle.world_core.specs.Rounds.{rounds_known, sums_told};
+ghost use Rattle.world_core.specs.Rounds.{barrier_start, rounds_known, sums_told};
 ghost use Rattle.world_core.specs.Wave.{EndsBarrier, IsComplete, IsQuiet, sums_at};
 ghost use Rattle.world_core.specs.World.{Logs, local, log_of};
 ghost use Rattle.comm_rank.specs.declared.turn.Turn.{Turn};
@@ -28,11 +29,12 @@ ghost use Rattle.comm_rank.specs.Rank.{HasSent, IsSameRank, Rank, held_letters};
 ghost use Rattle.comm_rank.specs.Turns.{Turned};
 ghost use Rattle.term_barrier.specs.Account.{Account, IsUpToDate, RankHandler, handler_at, handler_of, with_more};
 ghost use Rattle.term_barrier.specs.CompleteRun.{IsCompleteRun, OwnLetters, earlier};
-ghost use Rattle.term_barrier.specs.CountedPlace.{IsCountedPlace, MovesNone};
+ghost use Rattle.term_barrier.specs.CountedPlace.{AreCountedPlaces, IsCountedPlace, MovesNone};
 ghost use Rattle.term_barrier.specs.Cuts.{AreQuietCuts, IsQuietCut, arrivals_of, phase_part, phase_start};
-ghost use Rattle.term_barrier.specs.Left.{HasLeft, HaveLeft, gained, left_cut, left_cuts};
+ghost use Rattle.term_barrier.specs.Left.{HasLeft, HaveLeft, barriers_left, gained, left_cut, left_cuts};
 ghost use Rattle.term_barrier.specs.Merge.{IsMerge};
 ghost use Rattle.term_barrier.specs.Passed.{HasPassed, LevelsRise, TookPrefixes};
+ghost use Rattle.term_barrier.specs.Polls.{HasPolled};
 ghost use Rattle.term_barrier.specs.Served.{IsServed, IsSettledCut};
 ghost use Rattle.term_barrier.specs.Worked.{lone_rank};
 
@@ -121,6 +123,72 @@ pub fn a_counted_place_ends_a_phase<C>()
         (held : List Letter) (log : List Entry) → ((k : ℕ) → k < phase → other_cut k ≡ cut k) →
         ((k to : ℕ) → k ≤ phase → other k to ≡ own k to) →
         Account handler own cut phase held log → Account handler other other_cut phase held log }
+{}
+
+/// A poll keeps the account of its rank and each counted place, and its rank is up to date with its log again. It puts a
+/// Count with no letter held, so it puts each Count at a counted place.
+pub fn a_poll_keeps_the_account<H: Handler>()
+    ensures up_to_date { (old new : Rank H) (before after : List Entry) (turn : Turn) →
+        IsUpToDate H.apply H.start old before → IsSameRank old new → HasPolled H.apply old new before after turn →
+        IsUpToDate H.apply H.start new after }
+    ensures account { (own : ℕ → ℕ → List Letter) (cut : ℕ → ℕ) (phase : ℕ)
+        (old new : Rank H) (before after : List Entry) (turn : Turn) →
+        IsUpToDate H.apply H.start old before → IsSameRank old new → HasPolled H.apply old new before after turn →
+        Account (handler_of H.apply H.start old) own cut phase (held_letters old) before →
+        Account (handler_of H.apply H.start new) own cut phase (held_letters new) after }
+    ensures counted { (own : ℕ → List Letter) (begin place : ℕ)
+        (old new : Rank H) (before after : List Entry) (turn : Turn) →
+        IsUpToDate H.apply H.start old before → IsSameRank old new → HasPolled H.apply old new before after turn →
+        IsCountedPlace (handler_of H.apply H.start old) own begin place (held_letters old) before →
+        IsCountedPlace (handler_of H.apply H.start new) own begin place (held_letters new) after }
+    ensures new_count { (own : ℕ → ℕ → List Letter) (cut : ℕ → ℕ) (phase q : ℕ)
+        (old new : Rank H) (before after : List Entry) (turn : Turn) →
+        IsUpToDate H.apply H.start old before → IsSameRank old new → HasPolled H.apply old new before after turn →
+        Account (handler_of H.apply H.start old) own cut phase (held_letters old) before →
+        counts before ≤ q → q < counts after →
+        IsCountedPlace (handler_of H.apply H.start new) (own phase) (phase_start cut phase)
+        (length (before_count q after)) (held_letters new) after }
+{}
+
+/// Each Count that a rank puts since it left its last barrier is at a counted place. There is none where the rank is in no
+/// counted barrier. Polls keep it, and so do turns that put data letters alone.
+pub fn each_count_of_a_barrier_is_at_a_counted_place<H: Handler>()
+    ensures none { (handler : RankHandler H) (own : ℕ → List Letter) (begin : ℕ) (held : List Letter) (me : Local) →
+        is_counted me ≡ false → AreCountedPlaces handler own begin (barrier_start me.here me.log) held me.log }
+    ensures polled { (own : ℕ → ℕ → List Letter) (cut : ℕ → ℕ) (phase first : ℕ)
+        (old new : Rank H) (before after : List Entry) (turn : Turn) →
+        IsUpToDate H.apply H.start old before → IsSameRank old new → HasPolled H.apply old new before after turn →
+        Account (handler_of H.apply H.start old) own cut phase (held_letters old) before →
+        AreCountedPlaces (handler_of H.apply H.start old) (own phase) (phase_start cut phase) first (held_letters old) before →
+        AreCountedPlaces (handler_of H.apply H.start new) (own phase) (phase_start cut phase) first (held_letters new) after }
+    ensures turned { (own : ℕ → List Letter) (begin first : ℕ)
+        (old new : Rank H) (before after : List Entry) (turn : Turn) →
+        IsUpToDate H.apply H.start old before → IsSameRank old new →
+        (turned : Turned H.apply old new before after turn) →
+        AllByRecursion (λ l. IsTrue (is_data l)) (letters_put turned.placed) →
+        AreCountedPlaces (handler_of H.apply H.start old) own begin first (held_letters old) before →
+        AreCountedPlaces (handler_of H.apply H.start new) own begin first (held_letters new) after }
+    ensures later { (handler : RankHandler H) (own : ℕ → List Letter) (begin first later : ℕ) (held : List Letter)
+        (log : List Entry) → first ≤ later →
+        AreCountedPlaces handler own begin first held log → AreCountedPlaces handler own begin later held log }
+{}
+
+/// A rank that leaves a barrier counted in its last two rounds since it left the barrier before. So the cut of the barrier
+/// is a counted place, and the phase of the rank ends there.
+pub fn leaving_a_barrier_ends_a_phase<C>()
+    ensures since { (me : Local) (more : List Entry) (round : ℕ) →
+        HasLeft (gained me more) (barriers_left me) round → barrier_start me.here me.log < round }
+    ensures put { (me : Local) (barrier round : ℕ) → IsModest me → HasLeft me barrier round → round < counts me.log }
+    ensures cut { (handler : RankHandler C) (own : ℕ → List Letter) (begin first : ℕ) (held : List Letter) (me : Local)
+        (round : ℕ) → AreCountedPlaces handler own begin first held me.log → first ≤ pred round →
+        pred round < counts me.log → IsCountedPlace handler own begin (left_cut me round) held me.log }
+    ensures next { (handler : RankHandler C) (own : ℕ → ℕ → List Letter) (cut : ℕ → ℕ) (phase : ℕ)
+        (held : List Letter) (me : Local) (more : List Entry) (round : ℕ) → IsModest (gained me more) →
+        HasLeft (gained me more) (barriers_left me) round →
+        AreCountedPlaces handler (own phase) (phase_start cut phase) (barrier_start me.here me.log) held (me.log ++ more) →
+        cut phase ≡ left_cut (gained me more) round → ((to : ℕ) → own (suc phase) to ≡ []) →
+        Account handler own cut phase held (me.log ++ more) →
+        Account handler own cut (suc phase) held (me.log ++ more) }
 {}
 
 /// Worlds give what the laws below ask for. The cut at a quiet round is quiet, by the places of its Counts. In a sound

@@ -36,6 +36,9 @@ fn the_laws_can_be_cited() {
     control_letters_keep_the_account::<u64>();
     a_count_with_nothing_held_is_at_a_counted_place::<u64>();
     a_counted_place_ends_a_phase::<u64>();
+    a_poll_keeps_the_account::<Silent>();
+    each_count_of_a_barrier_is_at_a_counted_place::<Silent>();
+    leaving_a_barrier_ends_a_phase::<u64>();
     worlds_give_what_these_laws_ask();
     accounts_and_quiet_cuts_make_a_complete_run::<u64>();
     nothing_arrives_after_the_last_cut::<u64>();

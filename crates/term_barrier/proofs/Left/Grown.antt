@@ -48,7 +48,7 @@ module _ (me : Local) (more : List Entry) where
       (λ j some. ap is_some (total_stays me.here j me.log more some) ∙ some)
       more_taken
 
-  sums_stay : (q : ℕ) → q < rounds_known me.here me.log → sums_told me.here me.log q ≡ sums_told me.here (me.log ++ more) q
+  pub sums_stay : (q : ℕ) → q < rounds_known me.here me.log → sums_told me.here me.log q ≡ sums_told me.here (me.log ++ more) q
   sums_stay q known = sym (ap sums_in (total_stays me.here q me.log more (took_total me q known)))
 
   pub left_stays : (barrier round : ℕ) → HasLeft me barrier round → HasLeft (gained me more) barrier round
