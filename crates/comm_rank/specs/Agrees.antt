@@ -1,19 +1,21 @@
 -- When a rank and its log belong together.
-use Rattle.std.specs.Prelude.{◌≡◌, ◌≢◌, ℕ, ◌+◌, IsTrue, List, [], length}
+use Rattle.std.specs.Prelude.{◌≡◌, ◌≢◌, ◌⊎◌, ℕ, ◌+◌, true, IsTrue, List, [], length}
 use Rattle.std.specs.List.{AllByRecursion}
 use Rattle.list_facts.specs.Sublist.{IsSublist}
+use Rattle.msg_codec.specs.declared.letter.Letter.{Letter}
 use Rattle.world_core.specs.declared.entry.Entry.{Entry}
-use Rattle.world_core.specs.Local.{to_forward}
-use Rattle.world_core.specs.Log.{letters_put}
+use Rattle.world_core.specs.ControlRules.{is_free}
+use Rattle.world_core.specs.Local.{Local, to_forward}
+use Rattle.world_core.specs.Log.{letters_of, letters_put}
 use Rattle.world_core.specs.Modest.{IsModest}
-use Rattle.world_core.specs.Pairs.{is_data, of_pair, own_count, sent_number}
+use Rattle.world_core.specs.Pairs.{is_data, of_pair, of_sender, own_count, sent_number}
 use Rattle.world_core.specs.Post.{PostState}
 use Rattle.comm_rank.specs.Fold.{Applies, fold_from, handed_from}
 use Rattle.comm_rank.specs.Rank.{Rank, local_of, held_letters, sent_to, ran_at}
 
 -- A rank agrees with a log: all that came has run, what it holds of other senders is what it has to forward, its counts
 -- are those of the letters that it sent and ran, its contents are the fold of what ran, all that its handler gave was
--- sent, and the log is modest. It put data letters alone, since a rank sends no control letters yet.
+-- sent, and the log is modest.
 pub record Agrees {C : Type 0} (apply : Applies C) (start : C → C) (me : Rank C) (log : List Entry) : Type 0 where
   pub nothing_waits : me.waiting ≡ []
   pub forwards : (from to : ℕ) → from ≢ me.here → of_pair from to (held_letters me) ≡ to_forward (local_of me log) from to
@@ -22,7 +24,6 @@ pub record Agrees {C : Type 0} (apply : Applies C) (start : C → C) (me : Rank 
   pub contents : me.contents ≡ fold_from apply me.here me.layout.ranks (start me.contents) (ran_at me log)
   pub given_is_sent : (to : ℕ) → IsSublist (of_pair me.here to (handed_from apply me.here me.layout.ranks (start me.contents) (ran_at me log))) (sent_to me log to)
   pub modest : IsModest (local_of me log)
-  pub data_alone : AllByRecursion (λ l. IsTrue (is_data l)) (letters_put log)
 
 -- A rank belongs to a post: the post serves it and is of the same world, and the rank agrees with its log there.
 pub record Belongs {C : Type 0} (apply : Applies C) (start : C → C) (me : Rank C) (post : PostState) : Type 0 where
@@ -30,3 +31,14 @@ pub record Belongs {C : Type 0} (apply : Applies C) (start : C → C) (me : Rank
   pub layout : post.layout ≡ me.layout
   pub scheme : post.scheme ≡ me.scheme
   pub agrees : Agrees apply start me (post.log me.here)
+
+-- a log that put data letters alone
+abbrev pub PutsData : List Entry → Type 0
+PutsData log = AllByRecursion (λ l. IsTrue (is_data l)) (letters_put log)
+
+-- A rank may put what it holds of its own letters: its log is free, so that it isn't idle in a barrier, or it holds none.
+abbrev pub MaySend : Local → List (List Letter) → Type 0
+MaySend me held = (is_free me ≡ true) ⊎ (of_sender me.here (letters_of held) ≡ [])
+
+abbrev pub MayTurn : {C : Type 0} → Rank C → List Entry → Type 0
+MayTurn me log = MaySend (local_of me log) me.held

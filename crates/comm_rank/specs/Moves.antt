@@ -5,18 +5,19 @@ use Rattle.msg_codec.specs.declared.letter.Letter.{Letter}
 use Rattle.ygm_route.specs.declared.scheme.Scheme.TheVariants.{Direct}
 use Rattle.world_core.specs.declared.entry.Entry.{Entry}
 use Rattle.world_core.specs.Limits.{most_letters}
-use Rattle.world_core.specs.Log.{letters_of, letters_put}
-use Rattle.world_core.specs.Pairs.{is_data, of_pair, own_count, sent, sent_number}
+use Rattle.world_core.specs.Log.{IsPut, letters_of}
+use Rattle.world_core.specs.Pairs.{of_pair, own_count, sent, sent_number}
 use Rattle.world_core.specs.Post.{CountsNeverFall, FullsRise, SameFulls, SameMisses, SamePost, SameStops, PostState, local_at}
 use Rattle.world_core.specs.Rules.{IsHonest}
+use Rattle.comm_rank.specs.Agrees.{MaySend, PutsData}
 use Rattle.comm_rank.specs.declared.fault.CommFault.{CommFault}
 use Rattle.comm_rank.specs.declared.fault.CommFault.TheVariants.{NoMemory}
 use Rattle.comm_rank.specs.Held.{NoneClosed, held_for}
 use Rattle.comm_rank.specs.Rank.{Rank, ran_at, sent_to}
-use Rattle.comm_rank.specs.Turns.{FirstFull, IsPut, MetFull, NoneOrFull}
+use Rattle.comm_rank.specs.Turns.{FirstFull, MetFull, NoneOrFull}
 
 -- A rank may put what it holds: it is a rank of the post's world, where letters go straight to their destination; the
--- letters that it holds are its own, and with them it has sent no more than a rank may; and it put data letters alone.
+-- letters that it holds are its own, with them it has sent no more than a rank may, and it may send them.
 pub record MayPut (here : ℕ) (held : List (List Letter)) (post : PostState) : Type 0 where
   pub all : length held ≡ post.layout.ranks
   pub within : here < post.layout.ranks
@@ -24,7 +25,7 @@ pub record MayPut (here : ℕ) (held : List (List Letter)) (post : PostState) : 
   pub direct : post.scheme ≡ Direct
   pub own_alone : (from to : ℕ) → from ≢ here → of_pair from to (letters_of held) ≡ []
   pub few : own_count here (post.log here) + sent_number here (letters_of held) ≤ most_letters
-  pub data_alone : AllByRecursion (λ l. IsTrue (is_data l)) (letters_put (post.log here))
+  pub may_send : MaySend (local_at post here) held
 
 -- what puts leave unchanged at the post
 pub record MoveKeeps (here : ℕ) (old new : PostState) : Type 0 where
@@ -35,12 +36,13 @@ pub record MoveKeeps (here : ℕ) (old new : PostState) : Type 0 where
   pub counts : CountsNeverFall old new
 
 -- Letters moved from what a rank holds into its log, which gained honest puts of data letters alone. What was sent to each
--- rank is unchanged, and so is its count.
+-- rank is unchanged, and so is its count. A rank that may send what it holds still may.
 pub record Moved (here : ℕ) (before after : List (List Letter)) (old new : PostState) (placed : List Entry) : Type 0 where
   pub log : new.log here ≡ old.log here ++ placed
   pub puts : AllByRecursion IsPut placed
-  pub data_alone : AllByRecursion (λ l. IsTrue (is_data l)) (letters_put placed)
+  pub data_alone : PutsData placed
   pub honest : IsHonest (local_at old here) → IsHonest (local_at new here)
+  pub may_send : MaySend (local_at old here) before → MaySend (local_at new here) after
   pub sent_unchanged : (to : ℕ) → sent here to (new.log here) (letters_of after) ≡ sent here to (old.log here) (letters_of before)
   pub count_unchanged : own_count here (new.log here) + sent_number here (letters_of after) ≡ own_count here (old.log here) + sent_number here (letters_of before)
   pub none_more : (from to : ℕ) → of_pair from to (letters_of before) ≡ [] → of_pair from to (letters_of after) ≡ []
@@ -92,11 +94,12 @@ pub record HasPutEach (here ranks : ℕ) (before after : List (List Letter)) (ol
   pub none_or_full : (to : ℕ) → to < ranks → NoneOrFull here to after old new
   pub first_full : FirstFull ranks after old new full
 
--- Puts of a rank: its log gained puts alone. What it has sent, what ran, and all of the rank but what it holds are
+-- Puts of a rank: its log gained puts of data letters alone. What it has sent, what ran, and all of the rank but what it holds are
 -- unchanged.
 pub record PutOut {C : Type 0} (old new : Rank C) (before after placed : List Entry) : Type 0 where
   pub log : after ≡ before ++ placed
   pub puts : AllByRecursion IsPut placed
+  pub data_alone : PutsData placed
   pub rank : new ≡ record old { held = new.held }
   pub sent : (to : ℕ) → sent_to new after to ≡ sent_to old before to
   pub ran : ran_at new after ≡ ran_at old before

@@ -3,17 +3,17 @@ use Rattle.std.specs.Prelude.{◌≡◌, ◌≢◌, ℕ, ◌+◌, ◌<◌, ◌�
 use Rattle.std.specs.List.{AllByRecursion, AllPairs}
 use Rattle.msg_codec.specs.declared.letter.Letter.{Letter}
 use Rattle.world_core.specs.declared.entry.Entry.{Entry}
-use Rattle.world_core.specs.Log.{batches_taken, letters_taken}
+use Rattle.world_core.specs.Log.{IsTake, batches_taken, letters_taken}
 use Rattle.world_core.specs.Pairs.{is_data, for_rank}
 use Rattle.world_core.specs.Post.{CountsNeverFall, SameFulls, SamePost, SameStops, PostState, link_in}
 use Rattle.world_core.specs.Rules.{IsHonest}
 use Rattle.comm_rank.specs.declared.fault.CommFault.{CommFault}
-use Rattle.comm_rank.specs.Agrees.{Belongs}
+use Rattle.comm_rank.specs.Agrees.{Belongs, MayTurn}
 use Rattle.comm_rank.specs.Fault.{IfCountFull}
 use Rattle.comm_rank.specs.Fold.{Applies}
 use Rattle.comm_rank.specs.Held.{Gains}
 use Rattle.comm_rank.specs.Rank.{Rank, folded, handed, held_letters, local_of}
-use Rattle.comm_rank.specs.Turns.{Advanced, CutOff, HasBegun, IsCause, IsFullAfter, IsTake, LookedAt, FullAtFirst, other_end}
+use Rattle.comm_rank.specs.Turns.{Advanced, CutOff, HasBegun, IsCause, IsFullAfter, LookedAt, FullAtFirst, other_end}
 
 -- a data letter for this rank
 pub record IsFor (rank : ℕ) (l : Letter) : Type 0 where
@@ -130,6 +130,7 @@ pub record NotLookedAt (here from : ℕ) (old new : PostState) : Type 0 where
 pub record HasTakenFrom {C : Type 0} (from : ℕ) (apply : Applies C) (start : C → C) (old new : Rank C) (before after : PostState) (took : ℕ) : Type 0 where
   pub taken : TookFrom from apply old new (before.log old.here) (after.log old.here) took
   pub belongs : Belongs apply start new after
+  pub may_turn : MayTurn new (after.log old.here)
   pub looked : LookedAt old.here from before after
   pub others : (other : ℕ) → other ≢ from → NotLookedAt old.here other before after
 
@@ -143,6 +144,7 @@ pub record WasCutFrom {C : Type 0} (from : ℕ) (apply : Applies C) (old new : R
 pub record HasTakenAll {C : Type 0} (apply : Applies C) (start : C → C) (old new : Rank C) (before after : PostState) (took : ℕ) : Type 0 where
   pub taken : TookAll apply old new (before.log old.here) (after.log old.here) took
   pub belongs : Belongs apply start new after
+  pub may_turn : MayTurn new (after.log old.here)
   pub takes_from_each : (from : ℕ) → from < old.layout.ranks → LookedAt old.here from before after
 
 -- what work leaves unchanged at the post

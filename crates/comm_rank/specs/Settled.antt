@@ -7,14 +7,15 @@ use Rattle.world_core.specs.Log.{letters_of}
 use Rattle.world_core.specs.Pairs.{of_pair, pair_put, pair_taken}
 use Rattle.world_core.specs.Plain.{Plain, state_of}
 use Rattle.world_core.specs.World.{link, log_of}
-use Rattle.comm_rank.specs.Agrees.{Agrees}
+use Rattle.comm_rank.specs.Agrees.{Agrees, PutsData}
 use Rattle.comm_rank.specs.Fault.{IfCountFull, IfStopped, IsFullAt, UnlessStopped}
 use Rattle.comm_rank.specs.Fold.{Applies}
 use Rattle.comm_rank.specs.Rank.{Rank, IsSameRank, halted, held_letters, sent_to, ran_from}
 use Rattle.comm_rank.specs.Turns.{Advanced, CutOff, FullAtFirst}
 use Rattle.comm_rank.specs.declared.fault.CommFault.{CommFault}
 
--- a rank of the links' world, which may go on: its number, and that a link carries all that it may send
+-- A rank of the links' world, which may go on: its number, that a link carries all that it may send, and that it has put
+-- data letters alone.
 pub record IsRankOf {C : Type 0} (apply : Applies C) (start : C → C) (links : Plain) (rank : ℕ) (me : Rank C) : Type 0 where
   pub here : me.here ≡ rank
   pub layout : me.layout ≡ links.world.layout
@@ -22,6 +23,7 @@ pub record IsRankOf {C : Type 0} (apply : Applies C) (start : C → C) (links : 
   pub going : me.stopped ≡ false
   pub few : me.most ≤ links.batches
   pub agrees : Agrees apply start me (log_of links.world rank)
+  pub data_alone : PutsData (log_of links.world rank)
 
 -- one for each rank, in the order of ranks
 pub record AreRanks {C : Type 0} (apply : Applies C) (start : C → C) (comms : List (Rank C)) (links : Plain) : Type 0 where

@@ -1,17 +1,17 @@
 -- What a turn of a rank does.
-use Rattle.std.specs.Prelude.{◌≡◌, ◌⊎◌, ◌≢◌, ℕ, ◌+◌, ◌-◌, ◌^◌, ◌<◌, true, IsTrue, List, [], ◌∷◌, ◌++◌, Option, Some, None, length, min, slice_get, take, ⊤}
+use Rattle.std.specs.Prelude.{◌≡◌, ◌⊎◌, ◌≢◌, ℕ, ◌+◌, ◌-◌, ◌^◌, ◌<◌, true, IsTrue, List, [], ◌∷◌, ◌++◌, Option, Some, None, length, min, slice_get, take}
 use Rattle.std.specs.List.{AllByRecursion, AllPairs}
 use Rattle.msg_codec.specs.declared.letter.Letter.{Letter}
 use Rattle.world_core.specs.declared.entry.Entry.{Entry}
 use Rattle.world_core.specs.declared.entry.Entry.TheVariants.{Put, Took}
-use Rattle.world_core.specs.Log.{batches_taken, letters_taken}
+use Rattle.world_core.specs.Log.{IsPut, IsTake, batches_taken, letters_taken}
 use Rattle.world_core.specs.Pairs.{for_rank, of_pair}
 use Rattle.world_core.specs.Post.{CountsNeverFall, SameFulls, SamePost, SameStops, ServesAll, SomeRaised, PostState, is_full_in, link_in}
 use Rattle.world_core.specs.Rising.{Rose}
 use Rattle.world_core.specs.Rules.{IsHonest}
 use Rattle.comm_rank.specs.declared.turn.Turn.{Turn}
 use Rattle.comm_rank.specs.declared.fault.CommFault.{CommFault}
-use Rattle.comm_rank.specs.Agrees.{Belongs}
+use Rattle.comm_rank.specs.Agrees.{Belongs, MayTurn, PutsData}
 use Rattle.comm_rank.specs.Fault.{GivesIfFull, IfCountFull, IsFullAt, NeverStopped}
 use Rattle.comm_rank.specs.Fold.{Applies, given_by}
 use Rattle.comm_rank.specs.Held.{NoneClosed}
@@ -19,25 +19,18 @@ use Rattle.comm_rank.specs.Rank.{Rank, folded, halted, handed, local_of, ran_at,
 
 -- ---- what its log gains
 
-abbrev pub IsTake : Entry → Type 0
-IsTake (Put to letters) = ⊥
-IsTake (Took from letters) = ⊤
-
-abbrev pub IsPut : Entry → Type 0
-IsPut (Put to letters) = ⊤
-IsPut (Took from letters) = ⊥
-
 -- the rank at the other end of the link
 abbrev pub other_end : Entry → ℕ
 other_end (Put to letters) = to
 other_end (Took from letters) = from
 
--- The log gained takes, at most one from each rank and in the order of ranks, and then puts.
+-- The log gained takes, at most one from each rank and in the order of ranks, and then puts of data letters alone.
 pub record Gained (before after taken placed : List Entry) : Type 0 where
   pub log : after ≡ before ++ taken ++ placed
   pub takes : AllByRecursion IsTake taken
   pub in_order : AllPairs (λ one later. other_end one < other_end later) taken
   pub puts : AllByRecursion IsPut placed
+  pub data_alone : PutsData placed
 
 -- ---- what it ran and sent
 
@@ -148,6 +141,7 @@ FirstFull ranks held old new (Some to) = IsFirstFull ranks to held old new
 pub record HasEnded {C : Type 0} (apply : Applies C) (start : C → C) (old new : Rank C) (before after : PostState) (turn : Turn) : Type 0 where
   pub turned : Turned apply old new (before.log old.here) (after.log old.here) turn
   pub belongs : Belongs apply start new after
+  pub may_turn : MayTurn new (after.log old.here)
   pub takes_from_each : (from : ℕ) → from < old.layout.ranks → LookedAt old.here from before after
   pub puts_to_each : (to : ℕ) → to < old.layout.ranks → NoneOrFull old.here to new.held before after
   pub full : FirstFull old.layout.ranks new.held before after turn.full

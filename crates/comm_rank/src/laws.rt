@@ -6,9 +6,9 @@ ghost use Rattle.world_core.specs.declared.entry.Entry.{Entry};
 ghost use Rattle.world_core.specs.Pairs.{arrived, for_rank, is_data};
 ghost use Rattle.world_core.specs.Sound.{IsSound};
 ghost use Rattle.world_core.specs.World.{Logs, log_of};
-ghost use Rattle.comm_rank.specs.Agrees.{Agrees};
+ghost use Rattle.comm_rank.specs.Agrees.{Agrees, MayTurn, PutsData};
 ghost use Rattle.comm_rank.specs.Rank.{HasSent, Rank, ran_at, ran_from, sent_to};
-ghost use Rattle.comm_rank.specs.Turns.{CutOff};
+ghost use Rattle.comm_rank.specs.Turns.{CutOff, Gained};
 
 use crate::Handler;
 
@@ -37,4 +37,11 @@ pub fn a_letter_that_is_sent_is_the_last_to_its_destination<H>()
     ensures last { (old new : Rank H) (l : Letter) (log : List Entry) → IsTrue (is_data l) → l.from ≡ old.here → HasSent old new l →
         sent_to new log l.to ≡ sent_to old log l.to ++ l ∷ [] }
     ensures others { (old new : Rank H) (l : Letter) (log : List Entry) (to : ℕ) → to ≢ l.to → HasSent old new l → sent_to new log to ≡ sent_to old log to }
+{}
+
+/// A rank that has put data letters alone may take a turn, and a turn puts data letters alone.
+#[tactic(auto, using(crate::proofs::Settled::AreRanks::may_turn_data, crate::proofs::Agrees::AfterPuts::data_gained))]
+pub fn a_turn_puts_data_letters_alone<H>()
+    ensures may_turn { (me : Rank H) (log : List Entry) → PutsData log → MayTurn me log }
+    ensures after { (before after taken placed : List Entry) → Gained before after taken placed → PutsData before → PutsData after }
 {}

@@ -19,7 +19,8 @@ pub use comm::{Comm, Finished, NotMade};
 pub use fault::CommFault;
 pub use handler::{Handler, Outbound, Outgoing};
 pub use laws::{
-    a_letter_that_is_sent_is_the_last_to_its_destination, what_came_has_run_or_waits,
-    what_ran_is_the_beginning_of_what_was_sent, what_ran_is_what_came_without_what_waits,
+    a_letter_that_is_sent_is_the_last_to_its_destination, a_turn_puts_data_letters_alone,
+    what_came_has_run_or_waits, what_ran_is_the_beginning_of_what_was_sent,
+    what_ran_is_what_came_without_what_waits,
 };
 pub use turn::Turn;

@@ -1,7 +1,7 @@
 //! A rank puts the letters that it holds into its links.
 ghost use Rattle.std.specs.Prelude.{◌≡◌, ◌<◌, ◌≤◌, ℕ, length, IfErr, IfOk};
 ghost use Rattle.world_core.specs.Rules.{IsHonest};
-ghost use Rattle.comm_rank.specs.Agrees.{Belongs};
+ghost use Rattle.comm_rank.specs.Agrees.{Belongs, MayTurn};
 ghost use Rattle.comm_rank.specs.Held.{held_for};
 ghost use Rattle.comm_rank.specs.Moves.{HasPutAll, HasPutEach, HasPutFirst, HasPutTo, MayPut, MoveKeeps, PutAllFailed, PutsFailed};
 ghost use Rattle.comm_rank.specs.Rank.{local_of};
@@ -97,9 +97,11 @@ impl<H: Handler> Comm<H> {
     /// to which the link was full.
     pub(crate) fn put_all<P: Post>(&mut self, post: &mut P) -> Result<(u64, Option<u32>), CommFault>
         requires belongs { Belongs H.apply H.start self.old (P.state post.old) }
+        requires may_turn { MayTurn self.old ((P.state post.old).log self.old.here) }
         ensures put { IfOk result (λ what. HasPutAll self.old self.new (P.state post.old) (P.state post.new) what.0 what.1) }
         ensures failed { IfErr result (PutAllFailed self.old self.new (P.state post.old) (P.state post.new)) }
         ensures belongs { Belongs H.apply H.start self.new (P.state post.new) }
+        ensures may_turn { MayTurn self.new ((P.state post.new).log self.old.here) }
         ensures honest { IsHonest (local_of self.old ((P.state post.old).log self.old.here)) → IsHonest (local_of self.old ((P.state post.new).log self.old.here)) }
         ensures keeps { MoveKeeps self.old.here (P.state post.old) (P.state post.new) }
     {

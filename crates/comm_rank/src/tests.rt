@@ -2,7 +2,7 @@ ghost use Rattle.std.specs.Prelude.{◌≡◌, ◌<◌, ◌≤◌, ◌+◌, ◌+
 ghost use Rattle.world_core.specs.declared.entry.Entry.{Entry};
 ghost use Rattle.world_core.specs.Post.{SamePost};
 ghost use Rattle.ygm_route.specs.declared.scheme.Scheme.TheVariants.{Direct};
-ghost use Rattle.comm_rank.specs.Agrees.{Agrees, Belongs};
+ghost use Rattle.comm_rank.specs.Agrees.{Agrees, Belongs, PutsData};
 ghost use Rattle.comm_rank.specs.Rank.{IsSameRank, fresh_rank};
 
 mod queue_post;
@@ -135,10 +135,13 @@ fn send_by<H: Handler>(
     Ok(comm.send(to, tag, Body::of(alloc, &[first])?))
 }
 
-// A turn. Of what it promises this is enough here: a rank that isn't stopped still belongs to the post.
+// A turn. Of what it promises this is enough here: a rank that isn't stopped still belongs to the post,
+// and has put data letters alone.
 fn turn_of<H: Handler, P: Post>(comm: &mut Comm<H>, post: &mut P) -> Result<Turn, CommFault>
     requires going { comm.old.stopped ≡ false }
     requires belongs { Belongs H.apply H.start comm.old (P.state post.old) }
+    requires data_alone { PutsData ((P.state post.old).log comm.old.here) }
+    ensures data_alone { comm.new.stopped ≡ false → PutsData ((P.state post.new).log comm.old.here) }
     ensures belongs { comm.new.stopped ≡ false → Belongs H.apply H.start comm.new (P.state post.new) }
     ensures same_rank { IsSameRank comm.old comm.new }
     ensures same_post { SamePost comm.old.here (P.state post.old) (P.state post.new) }

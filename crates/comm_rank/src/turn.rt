@@ -3,7 +3,7 @@ ghost use Rattle.std.specs.Prelude.{◌≡◌, ◌<◌, ◌≤◌, ◌+◌, [], 
 ghost use Rattle.std.specs.List.{AllByRecursion};
 ghost use Rattle.world_core.specs.Limits.{most_arrived};
 ghost use Rattle.world_core.specs.Log.{letters_of};
-ghost use Rattle.comm_rank.specs.Agrees.{Belongs};
+ghost use Rattle.comm_rank.specs.Agrees.{Belongs, MayTurn};
 ghost use Rattle.comm_rank.specs.Fault.{IfCountFull, IfStopped, IsFullAt, NeverStopped, UnlessStopped};
 ghost use Rattle.comm_rank.specs.declared.fault.CommFault.TheVariants.{Stopped};
 ghost use Rattle.comm_rank.specs.Fold.{letter_by};
@@ -17,10 +17,7 @@ use crate::held::Held;
 use crate::waiting::Waiting;
 use crate::{Comm, CommFault, Handler, Outgoing};
 use msg_codec::{Batch, Counter};
-use world_core::Post;
-
-/// The tags of data letters are below this one.
-const DATA_TAGS: u8 = 240;
+use world_core::{DATA_TAGS, Post};
 
 /// What a turn did: how many batches it took, how many it put, and the lowest rank to which the link was full.
 /// A count at the largest value of its type stays there.
@@ -75,6 +72,7 @@ impl<H: Handler> Comm<H> {
     pub fn turn<P: Post>(&mut self, post: &mut P) -> Result<Turn, CommFault>
         requires going { self.old.stopped ≡ false }
         requires belongs { Belongs H.apply H.start self.old (P.state post.old) }
+        requires may_turn { MayTurn self.old ((P.state post.old).log self.old.here) }
         ensures ended { IfOk result (HasEnded H.apply H.start self.old self.new (P.state post.old) (P.state post.new)) }
         ensures halted { IfErr result (λ fault. IfStopped fault (HasHalted self.old self.new (P.state post.old) (P.state post.new))) }
         ensures failed { IfErr result (λ fault. UnlessStopped fault (HasFailed H.apply self.old self.new (P.state post.old) (P.state post.new) fault)) }
@@ -97,6 +95,7 @@ impl<H: Handler> Comm<H> {
     /// The turn itself.
     fn work<P: Post>(&mut self, post: &mut P) -> Result<Turn, CommFault>
         requires belongs { Belongs H.apply H.start self.old (P.state post.old) }
+        requires may_turn { MayTurn self.old ((P.state post.old).log self.old.here) }
         ensures ended { IfOk result (HasEnded H.apply H.start self.old self.new (P.state post.old) (P.state post.new)) }
         ensures cut { IfErr result (WasCut H.apply self.old self.new ((P.state post.old).log self.old.here) ((P.state post.new).log self.old.here)) }
         ensures rank { Worked self.old self.new }
@@ -111,6 +110,7 @@ impl<H: Handler> Comm<H> {
     /// how many it took.
     fn take_all<P: Post>(&mut self, post: &mut P) -> Result<u32, CommFault>
         requires belongs { Belongs H.apply H.start self.old (P.state post.old) }
+        requires may_turn { MayTurn self.old ((P.state post.old).log self.old.here) }
         ensures took { IfOk result (HasTakenAll H.apply H.start self.old self.new (P.state post.old) (P.state post.new)) }
         ensures cut { IfErr result (WasCut H.apply self.old self.new ((P.state post.old).log self.old.here) ((P.state post.new).log self.old.here)) }
         ensures rank { Worked self.old self.new }
@@ -127,6 +127,7 @@ impl<H: Handler> Comm<H> {
     /// It returns how many it took.
     fn take_from<P: Post>(&mut self, post: &mut P, from: u32) -> Result<u32, CommFault>
         requires belongs { Belongs H.apply H.start self.old (P.state post.old) }
+        requires may_turn { MayTurn self.old ((P.state post.old).log self.old.here) }
         requires sender { from < self.old.layout.ranks }
         ensures took { IfOk result (HasTakenFrom from H.apply H.start self.old self.new (P.state post.old) (P.state post.new)) }
         ensures cut { IfErr result (WasCutFrom from H.apply self.old self.new ((P.state post.old).log self.old.here) ((P.state post.new).log self.old.here)) }

@@ -10,7 +10,7 @@ ghost use Rattle.comm_rank.specs.Settled.{IsRankOf};
 ghost use Rattle.counting_set.specs.Counting.{counting_apply};
 
 use super::*;
-use comm_rank::{Comm, CommFault, Handler, Outgoing, Turn};
+use comm_rank::{Comm, CommFault, Handler, Outgoing, Turn, a_turn_puts_data_letters_alone};
 use msg_codec::LetterRef;
 use std::alloc::{AllocError, Global};
 use std::marker::Model;
@@ -197,6 +197,7 @@ fn turn_of<H: Handler>(comm: &mut Comm<H>, links: &mut PlainLinks) -> Result<Tur
     if comm.is_stopped() {
         return Err("a rank that isn't stopped takes a turn".into());
     }
+    a_turn_puts_data_letters_alone::<H>();
     Ok(comm.turn(links)?)
 }
 

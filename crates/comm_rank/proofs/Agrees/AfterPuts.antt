@@ -10,7 +10,7 @@ use Rattle.ygm_route.specs.Layout.{Shape}
 use Rattle.world_core.specs.declared.entry.Entry.{Entry}
 use Rattle.world_core.specs.declared.entry.Entry.TheVariants.{Put, Took}
 use Rattle.world_core.specs.Limits.{most_letters}
-use Rattle.world_core.specs.Log.{batches_taken, letters_of, letters_put, letters_put_by, letters_taken}
+use Rattle.world_core.specs.Log.{IsPut, IsTake, batches_taken, letters_of, letters_put, letters_put_by, letters_taken}
 use Rattle.world_core.specs.Modest.{IsModest}
 use Rattle.world_core.specs.Pairs.{arrived, for_rank, is_data, of_pair, own_count, sent_number}
 use Rattle.world_core.specs.Post.{SamePost, PostState, local_at}
@@ -19,12 +19,12 @@ use Rattle.list_facts.proofs.Elements.{all_append}
 use Rattle.world_core.proofs.Log.Appended.{letters_taken-put, batches_taken-put}
 use Rattle.world_core.proofs.Modest.AfterPut.{modest_puts}
 use Rattle.list_facts.specs.Sublist.{IsSublist}
-use Rattle.comm_rank.specs.Agrees.{Agrees, Belongs}
+use Rattle.comm_rank.specs.Agrees.{Agrees, Belongs, MaySend, MayTurn, PutsData}
 use Rattle.comm_rank.specs.Fold.{Applies, fold_from, handed_from}
 use Rattle.comm_rank.specs.declared.fault.CommFault.{CommFault}
 use Rattle.comm_rank.specs.Moves.{HasPutAll, HasPutEach, MayPut, Moved, PutAllFailed, PutOut, PutsFailed}
 use Rattle.comm_rank.specs.Rank.{Rank, held_letters, local_of, ran_at, sent_to}
-use Rattle.comm_rank.specs.Turns.{FirstFull, IsPut}
+use Rattle.comm_rank.specs.Turns.{FirstFull, Gained}
 use Rattle.comm_rank.proofs.Agrees.Direct.{nothing_to_forward}
 
 -- ---- what a log took is unchanged when it gains puts
@@ -42,11 +42,23 @@ same_batches_taken from (Put to batch ∷ placed) log all =
 same_batches_taken from (Took sender batch ∷ placed) log all = absurd all.0
 
 -- a log that put data letters alone gains puts of data letters alone
-pub data_put : (log now placed : List Entry) → now ≡ log ++ placed → AllByRecursion (λ l. IsTrue (is_data l)) (letters_put log) →
-    AllByRecursion (λ l. IsTrue (is_data l)) (letters_put placed) → AllByRecursion (λ l. IsTrue (is_data l)) (letters_put now)
+pub data_put : (log now placed : List Entry) → now ≡ log ++ placed → PutsData log →
+    PutsData placed → PutsData now
 data_put log now placed gained all more =
     let whole : letters_put now ≡ letters_put log ++ letters_put placed = ap letters_put gained ∙ flat_map-append letters_put_by log placed in
     subst (AllByRecursion (λ l. IsTrue (is_data l))) (sym whole) (all_append (λ l. IsTrue (is_data l)) (letters_put log) (letters_put placed) all more)
+
+puts_none : (taken : List Entry) → AllByRecursion IsTake taken → letters_put taken ≡ []
+puts_none [] takes = refl
+puts_none (Took from batch ∷ taken) takes = puts_none taken takes.1
+puts_none (Put to batch ∷ taken) takes = absurd takes.0
+
+-- and so does one that a turn ended or cut off
+pub data_gained : (before after taken placed : List Entry) → Gained before after taken placed → PutsData before →
+    PutsData after
+data_gained before after taken placed gained all =
+    let none : PutsData taken = subst (AllByRecursion (λ l. IsTrue (is_data l))) (sym (puts_none taken gained.takes)) tt in
+    data_put (before ++ taken) after placed gained.log (data_put before (before ++ taken) taken refl all none) gained.data_alone
 
 -- ---- the rank
 
@@ -66,7 +78,7 @@ module _ {C : Type 0} (apply : Applies C) (start : C → C) (me : Rank C) (log :
 
     module _ (sent_unchanged : (to : ℕ) → sent_to new now to ≡ sent_to me log to)
         (count_unchanged : own_count me.here now + sent_number me.here (letters_of held) ≡ own_count me.here log + sent_number me.here (held_letters me))
-        (alone : (from to : ℕ) → from ≢ me.here → of_pair from to (letters_of held) ≡ []) (more : AllByRecursion (λ l. IsTrue (is_data l)) (letters_put placed)) where
+        (alone : (from to : ℕ) → from ≢ me.here → of_pair from to (letters_of held) ≡ []) where
       pub agrees_still : Agrees apply start new now
       agrees_still =
           let P : List Entry → Type 0 = λ l. IsModest (local_of me l) in
@@ -81,14 +93,20 @@ module _ {C : Type 0} (apply : Applies C) (start : C → C) (me : Rank C) (log :
                 let Q : List Letter → List Letter → Type 0 = λ ran sent. IsSublist (of_pair me.here to (handed_from apply me.here me.layout.ranks (start me.contents) ran)) sent in
                 subst (λ ran. Q ran (sent_to new now to)) (sym ran_unchanged) (subst (λ sent. Q (ran_at me log) sent) (sym (sent_unchanged to)) (agrees.given_is_sent to));
             modest = modest;
-            data_alone = data_put log now placed gained agrees.data_alone more;
           }
 
 -- ---- from what puts did to what is held
 
-module _ {C : Type 0} (apply : Applies C) (start : C → C) (me : Rank C) (old : PostState) (belongs : Belongs apply start me old) (direct : me.scheme ≡ Direct) where
+-- a rank that belongs to a post has the log that the post shows
+local_is : {C : Type 0} (apply : Applies C) (start : C → C) (me : Rank C) (post : PostState) → Belongs apply start me post → local_at post me.here ≡ local_of me (post.log me.here)
+local_is apply start me post belongs = (let a = belongs.layout in let b = belongs.scheme in cc)
+
+module _ {C : Type 0} (apply : Applies C) (start : C → C) (me : Rank C) (old : PostState) (belongs : Belongs apply start me old) (direct : me.scheme ≡ Direct) (may : MayTurn me (old.log me.here)) where
   agrees : Agrees apply start me (old.log me.here)
   agrees = belongs.agrees
+
+  may_send : MaySend (local_at old me.here) me.held
+  may_send = subst (λ l. MaySend l me.held) (sym (local_is apply start me old belongs)) may
 
   pub may_put : me.here < me.layout.ranks → length me.held ≡ me.layout.ranks → me.sent_count ≤ most_letters → MayPut me.here me.held old
   may_put within all few =
@@ -100,7 +118,7 @@ module _ {C : Type 0} (apply : Applies C) (start : C → C) (me : Rank C) (old :
         direct = belongs.scheme ∙ direct;
         own_alone = own_alone apply start me (old.log me.here) agrees direct;
         few = omega (arith, few, agrees.sent_count);
-        data_alone = agrees.data_alone;
+        may_send = may_send;
       }
 
   module _ (held : List (List Letter)) (new : PostState) (placed : List Entry) (moved : Moved me.here me.held held old new placed) where
@@ -108,6 +126,7 @@ module _ {C : Type 0} (apply : Applies C) (start : C → C) (me : Rank C) (old :
     put_out = record {
       log = moved.log;
       puts = moved.puts;
+      data_alone = moved.data_alone;
       rank = refl;
       sent = moved.sent_unchanged;
       ran = ran_unchanged apply start me (old.log me.here) agrees direct held (new.log me.here) placed moved.log moved.puts;
@@ -115,7 +134,7 @@ module _ {C : Type 0} (apply : Applies C) (start : C → C) (me : Rank C) (old :
 
     agrees_after : Agrees apply start (record me { held = held }) (new.log me.here)
     agrees_after = agrees_still apply start me (old.log me.here) agrees direct held (new.log me.here) placed moved.log moved.puts moved.sent_unchanged moved.count_unchanged
-        (λ from to other. moved.none_more from to (own_alone apply start me (old.log me.here) agrees direct from to other)) moved.data_alone
+        (λ from to other. moved.none_more from to (own_alone apply start me (old.log me.here) agrees direct from to other))
 
     pub belongs_after : Belongs apply start (record me { held = held }) new
     belongs_after = record {
@@ -124,6 +143,9 @@ module _ {C : Type 0} (apply : Applies C) (start : C → C) (me : Rank C) (old :
       scheme = moved.keeps.same.scheme ∙ belongs.scheme;
       agrees = agrees_after;
     }
+
+    pub may_turn_after : MayTurn (record me { held = held }) (new.log me.here)
+    may_turn_after = subst (λ l. MaySend l held) (local_is apply start (record me { held = held }) new belongs_after) (moved.may_send may_send)
 
   pub has_put_all : (held : List (List Letter)) (new : PostState) (put : ℕ) (full : Option ℕ) (ranks : ℕ) → ranks ≡ me.layout.ranks →
       HasPutEach me.here ranks me.held held old new put full → HasPutAll me (record me { held = held }) old new put full
@@ -143,10 +165,6 @@ pub moved_each : (here ranks : ℕ) (before after : List (List Letter)) (old new
     IfOk r (λ what. HasPutEach here ranks before after old new what.0 what.1) → IfErr r (PutsFailed here before after old new) → (placed : List Entry) × Moved here before after old new placed
 moved_each here ranks before after old now (Ok what) put failed = (put.placed, put.moved)
 moved_each here ranks before after old now (Err fault) put failed = (failed.placed, failed.moved)
-
--- a rank that belongs to a post has the log that the post shows
-local_is : {C : Type 0} (apply : Applies C) (start : C → C) (me : Rank C) (post : PostState) → Belongs apply start me post → local_at post me.here ≡ local_of me (post.log me.here)
-local_is apply start me post belongs = (let a = belongs.layout in let b = belongs.scheme in cc)
 
 pub honest_moved : {C : Type 0} (apply : Applies C) (start : C → C) (me : Rank C) (here : ℕ) (old new : PostState) → here ≡ me.here → Belongs apply start me old → SamePost here old new →
     (IsHonest (local_at old here) → IsHonest (local_at new here)) → IsHonest (local_of me (old.log me.here)) → IsHonest (local_of me (new.log me.here))

@@ -3,6 +3,7 @@ use Rattle.std.proofs.Common.{◌≡◌, ◌≢◌, ℕ, ◌+◌, ◌<◌, ◌�
 use Rattle.std.specs.Bool.{IsTrue}
 use Rattle.std.specs.List.{AllByRecursion}
 use Rattle.std.proofs.lemmas.Bool.{cases_eq}
+use Rattle.std.proofs.lemmas.List.{nil_from_length}
 use Rattle.std.proofs.lemmas.List.Elements.{filter-append}
 use Rattle.msg_codec.specs.declared.letter.Letter.{Letter}
 use Rattle.ygm_route.specs.declared.scheme.Scheme.{Scheme}
@@ -14,15 +15,17 @@ use Rattle.world_core.specs.Limits.{most_arrived}
 use Rattle.world_core.specs.Local.{Local, to_forward}
 use Rattle.world_core.specs.Log.{batches_put, batches_taken, letters_put, letters_taken}
 use Rattle.world_core.specs.Modest.{IsModest}
-use Rattle.world_core.specs.Pairs.{arrived, for_rank, is_data, is_of_pair, of_pair, own_count, pair_put, sent_number}
+use Rattle.world_core.specs.Pairs.{arrived, for_rank, is_data, is_of_pair, of_pair, of_sender, own_count, pair_put, sent_number}
 use Rattle.world_core.specs.Post.{MissesRise, SamePost, PostState, TookBatch, link_in, local_at}
 use Rattle.world_core.specs.Rules.{IsHonest}
+use Rattle.world_core.specs.ControlRules.{is_free}
+use Rattle.world_core.proofs.Counts.StaysFree.{free_took, stays_free}
 use Rattle.world_core.proofs.Deeds.Honest.{honest_more}
 use Rattle.world_core.proofs.Pairs.Appended.{pair_put-took}
 use Rattle.world_core.proofs.Pairs.Numbers.{own_count-took, run_number-is, sent_number-is}
 use Rattle.world_core.proofs.Log.Appended.{batches_put-took, batches_taken-took, letters_put-took}
 use Rattle.list_facts.specs.Sublist.{IsSublist}
-use Rattle.comm_rank.specs.Agrees.{Agrees, Belongs}
+use Rattle.comm_rank.specs.Agrees.{Agrees, Belongs, MayTurn}
 use Rattle.comm_rank.specs.Fold.{Applies, fold_from, handed_from}
 use Rattle.comm_rank.specs.Held.{Gains}
 use Rattle.comm_rank.specs.Rank.{Rank, IsSameRank, handed, held_letters, local_of, ran_at, sent_to}
@@ -147,7 +150,7 @@ module _ {C : Type 0} (apply : Applies C) (old new : Rank C) (log after : List E
           placed = [];
           run = stuck.run;
           given = stuck.given;
-          gained = record { log = gained ∙ sym (append-nil _); takes = (tt, tt); in_order = λ i j d less within. absurd (omega (arith, less, within)); puts = tt };
+          gained = record { log = gained ∙ sym (append-nil _); takes = (tt, tt); in_order = λ i j d less within. absurd (omega (arith, less, within)); puts = tt; data_alone = tt };
           arrived = one_taken ∙ stuck.waits ∙ ap (λ xs. stuck.run ++ xs) (sym rest_there);
           ran = ran_some before stuck.run stuck.waits;
           begun = stuck.stuck.begun;
@@ -166,6 +169,24 @@ module _ {C : Type 0} (apply : Applies C) (old new : Rank C) (log after : List E
     full_at_first = if_full fault (λ _ full. record { run = stuck.run; ran = ran_some before stuck.run stuck.waits; full = full }) stuck.full_at_first;
     cause = stuck.cause;
   }
+
+  -- Letters for the rank free its log. Without them it holds what it held.
+  pub may_turn_now : HasRunAll apply old new run → MayTurn old log → MayTurn new after
+  may_turn_now ran may =
+      let here = old.here in
+      let now : local_of old (log ++ Took from batch ∷ []) ≡ local_of new after = ap (local_of old) (sym gained) ∙ local_is old new after same in
+      elim may [
+        | inl free ↦ inl (ap is_free (sym now) ∙ stays_free (local_of old log) (Took from batch) refl free)
+        | inr none ↦ by_run run brings.for_here ran none now
+      ]
+    where
+      by_run : (xs : List Letter) → for_rank old.here batch ≡ xs → HasRunAll apply old new xs → of_sender old.here (held_letters old) ≡ [] →
+          local_of old (log ++ Took from batch ∷ []) ≡ local_of new after → MayTurn new after
+      by_run [] is ran none now =
+          let P : ℕ → Type 0 = λ h. of_sender h (held_letters new) ≡ [] in
+          inr (subst P (sym same.here) (nil_from_length _ (omega (arith, ran.held.senders old.here, ap length none))))
+      by_run (l ∷ xs) is ran none now =
+          inl (ap is_free (sym now) ∙ free_took (local_of old log) from batch (omega (arith, run_number-is old.here batch, ap length is)))
 
   module _ (start : C → C) (keeps : (c : C) (here ranks : ℕ) (l : Letter) → start (apply c here ranks l).0 ≡ start c) (agrees : Agrees apply start old log) where
     pub agrees_now : new.waiting ≡ [] → HasRunAll apply old new run → IsModest (local_of old after) → Agrees apply start new after
@@ -219,7 +240,6 @@ module _ {C : Type 0} (apply : Applies C) (old new : Rank C) (log after : List E
               let Q : List Letter → Type 0 = λ xs. IsSublist (of_pair here to (handed_from apply here n (start old.contents) (ran_at old log)) ++ of_pair here to given) xs in
               subst P (sym gave) (subst Q (sym (adv.sent to)) (sublist_append (of_pair here to given) (agrees.given_is_sent to)));
           modest = subst IsModest (local_is old new after same) modest;
-          data_alone = subst (AllByRecursion (λ l. IsTrue (is_data l))) (sym (ap letters_put gained ∙ letters_put-took log from batch)) agrees.data_alone;
         }
 
 -- no batch was there

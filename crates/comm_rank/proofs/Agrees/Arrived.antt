@@ -23,6 +23,7 @@ use Rattle.world_core.specs.Pairs.{arrived, for_rank, is_data, is_of_pair, of_pa
 use Rattle.world_core.specs.Sound.{IsOnPath}
 use Rattle.world_core.proofs.Pairs.Appended.{pair_put-took, pair_taken-took}
 use Rattle.world_core.proofs.Log.Appended.{letters_taken-took}
+use Rattle.world_core.proofs.Deeds.TwoKinds.{control_not_data}
 use Rattle.world_core.proofs.Modest.Lawful.{batch_kind, lawful_batch}
 use Rattle.list_facts.proofs.Elements.{all_second, all_weaker, both_of}
 use Rattle.list_facts.proofs.Filters.{filter_none}
@@ -117,14 +118,6 @@ crossed_from layout s d a b some h =
 
 -- ---- what a modest log took last
 
-control_tag : (l : Letter) → is_control l ≡ true → is_data l ≡ false
-control_tag l h = false_from_ne_true (is_data l) (λ yes.
-    let below : l.tag < 240 = ltb-true l.tag 240 yes in
-    elim (or_cases (is_count l) (is_total l) h) [
-      | inl count ↦ absurd (omega (arith, below, eqb-true l.tag 240 (and_first _ _ count)))
-      | inr total ↦ absurd (omega (arith, below, eqb-true l.tag 241 (and_first _ _ total)))
-    ])
-
 data_first : (letters : List Letter) → AllByRecursion (λ l. is_data l ≡ true) letters → for_handlers letters ≡ letters
 data_first [] h = refl
 data_first (l ∷ letters) h = rw h.0 refl
@@ -152,7 +145,7 @@ module _ (me : Local) (from : ℕ) (batch : List Letter) (some : 0 < me.layout.r
             both_of (λ l. is_data l ≡ true) (λ l. IsTrue (is_data l) → l.to ≡ me.here) (IsFor me.here) batch (λ l tag to. record { destination = to tag; tag = tag }) all straight in
             subst (Brings me.here batch) (sym (data_first batch all)) (brings_all me.here batch each)
         | inr one ↦
-            let none : is_data one.letter ≡ false = control_tag one.letter one.control in
+            let none : is_data one.letter ≡ false = control_not_data one.letter one.control in
             let P : List Letter → Type 0 = λ b. Brings me.here b (for_handlers b) in
             let alone : for_handlers (one.letter ∷ []) ≡ [] = rw none refl in
             subst P (sym one.alone) (subst (Brings me.here (one.letter ∷ [])) (sym alone) (brings_none me.here one.letter none))

@@ -45,5 +45,4 @@ agrees_fresh apply start layout scheme here most contents direct fresh =
       contents = sym fresh;
       given_is_sent = λ to. sublist_nil _;
       modest = modest;
-      data_alone = tt;
     }

@@ -3,7 +3,7 @@ use Rattle.std.proofs.Common.{◌≡◌, ◌≢◌, ℕ, ◌+◌, ◌<◌, Bool,
 use Rattle.std.specs.Bool.{IsTrue}
 use Rattle.std.specs.List.{AllByRecursion, list_any}
 use Rattle.std.proofs.lemmas.Bool.{cases_eq}
-use Rattle.std.proofs.lemmas.List.{set-set, set-get_or}
+use Rattle.std.proofs.lemmas.List.{set-set, set-get_or, nil_from_length}
 use Rattle.msg_codec.specs.Control.{is_count, is_total}
 use Rattle.msg_codec.specs.declared.letter.Letter.{Letter}
 use Rattle.ygm_route.specs.declared.scheme.Scheme.{Scheme}
@@ -12,25 +12,26 @@ use Rattle.ygm_route.specs.Hop.{hop}
 use Rattle.ygm_route.proofs.Hop.Cases.{hop-direct}
 use Rattle.world_core.specs.declared.entry.Entry.{Entry}
 use Rattle.world_core.specs.declared.entry.Entry.TheVariants.{Put, Took}
-use Rattle.world_core.specs.ControlRules.{sent_while_counted, wrong_control, count_early, count_unforwarded, count_wrong, total_early, total_wrong}
-use Rattle.world_core.specs.Counts.{counts}
+use Rattle.world_core.specs.ControlRules.{is_free, sent_while_counted, wrong_control, count_early, count_unforwarded, count_wrong, total_early, total_wrong}
 use Rattle.world_core.specs.Limits.{most_letters}
 use Rattle.world_core.specs.Local.{Local, having_put}
-use Rattle.world_core.specs.Log.{letters_of, letters_put}
+use Rattle.world_core.specs.Log.{IsPut, letters_of, letters_put}
 use Rattle.world_core.specs.Pairs.{is_data, is_of_pair, of_pair, of_sender, own_count, pair_put, sent, sent_number}
 use Rattle.world_core.specs.Post.{CountsNeverFall, FullsRise, IfFull, IfNoMemory, PutKeeps, SameFulls, SamePost, PostState, local_at}
 use Rattle.world_core.specs.declared.post.PutBack.{PutBack}
 use Rattle.world_core.specs.declared.post.PutBack.TheVariants.{Full, NoMemory}
 use Rattle.world_core.specs.Rising.{Rose}
-use Rattle.world_core.specs.Rounds.{barrier_start}
 use Rattle.world_core.specs.Rules.{Deed, first_broken, no_such_rank, mixed_control, some_letter, bad_tag, wrong_hop, not_held, too_many_sent, IsHonest}
 use Rattle.world_core.specs.Rules.Deed.{Puts}
 use Rattle.world_core.proofs.Counts.AfterPut.{own_count-empty, sent_while_counted-put}
+use Rattle.world_core.proofs.Counts.StaysFree.{data_uncounted, stays_free}
+use Rattle.world_core.proofs.Deeds.TwoKinds.{data_not_count, data_not_total}
 use Rattle.world_core.proofs.Deeds.Honest.{honest_more}
 use Rattle.world_core.proofs.Pairs.Appended.{pair_put-put}
 use Rattle.world_core.proofs.Pairs.Numbers.{own_count-put, sent_number-is}
 use Rattle.list_facts.proofs.Elements.{all_append, all_first, all_second, all_weaker}
 use Rattle.list_facts.proofs.Tests.{none_any}
+use Rattle.comm_rank.specs.Agrees.{MaySend}
 use Rattle.comm_rank.proofs.Agrees.AfterPuts.{data_put}
 use Rattle.comm_rank.proofs.Rank.Same.{same_then}
 use Rattle.world_core.proofs.Posts.CountsNeverFall.{never_fall_refl, never_fall_trans}
@@ -38,7 +39,7 @@ use Rattle.world_core.proofs.Deeds.EachLetter.{hop_right, held_own}
 use Rattle.comm_rank.specs.Held.{NoneClosed, held_for}
 use Rattle.comm_rank.specs.Moves.{MayPut, Moved, MoveKeeps, PutsOne, put_count}
 use Rattle.comm_rank.specs.Store.{IsHeldFor, Loses, OthersUnchanged}
-use Rattle.comm_rank.specs.Turns.{IsPut, MetFull}
+use Rattle.comm_rank.specs.Turns.{MetFull}
 
 -- ---- it breaks no rule
 
@@ -57,47 +58,23 @@ or_nothing : (b : Bool) → b ≡ false → (b || false) ≡ false
 or_nothing true h = h
 or_nothing false h = h
 
--- a data letter is no control letter
-not_count : (l : Letter) → IsTrue (is_data l) → is_count l ≡ false
-not_count l tagged =
-    let below : l.tag < 240 = ltb-true l.tag 240 tagged in
-    let other : nat_eq l.tag 240 ≡ false = ne_eqb l.tag 240 (λ e. absurd (omega (arith, e, below))) in
-    rw other refl
-
-not_total : (l : Letter) → IsTrue (is_data l) → is_total l ≡ false
-not_total l tagged =
-    let below : l.tag < 240 = ltb-true l.tag 240 tagged in
-    let other : nat_eq l.tag 241 ≡ false = ne_eqb l.tag 241 (λ e. absurd (omega (arith, e, below))) in
-    rw other refl
-
--- a rank that put data letters alone put no Count
-no_counts : (log : List Entry) → AllByRecursion (λ l. IsTrue (is_data l)) (letters_put log) → counts log ≡ 0
-no_counts [] all = refl
-no_counts (Took from batch ∷ log) all = no_counts log all
-no_counts (Put to batch ∷ log) all =
-    let none : list_any is_count batch ≡ false =
-    none_any is_count batch (all_weaker (λ l. IsTrue (is_data l)) (λ l. is_count l ≡ false) batch not_count (all_first (λ l. IsTrue (is_data l)) batch (letters_put log) all)) in
-    rw none (no_counts log (all_second (λ l. IsTrue (is_data l)) batch (letters_put log) all))
-
--- and so it may put an own letter
-free_to_send : (me : Local) (to : ℕ) (l : Letter) → counts me.log ≡ 0 → sent_while_counted (having_put me to []) to l ≡ false
-free_to_send me to l none =
-    let not_counted : nat_lt (barrier_start me.here me.log) (counts me.log) ≡ false = le-ltb _ _ (omega (arith, none)) in
-    sent_while_counted-put me to [] refl l ∙ rw not_counted (and_false (is_data l && nat_eq l.from me.here))
+-- a free rank may put an own letter
+free_to_send : (me : Local) (to : ℕ) (l : Letter) → is_free me ≡ true → sent_while_counted (having_put me to []) to l ≡ false
+free_to_send me to l free = sent_while_counted-put me to [] refl l ∙ rw free (and_false (is_data l && nat_eq l.from me.here))
 
 pub unbroken_put : (me : Local) (to : ℕ) (l : Letter) → me.here < me.layout.ranks → to < me.layout.ranks → me.scheme ≡ Direct →
-    l.to ≡ to → l.from ≡ me.here → IsTrue (is_data l) → own_count me.here me.log < most_letters → counts me.log ≡ 0 →
+    l.to ≡ to → l.from ≡ me.here → IsTrue (is_data l) → own_count me.here me.log < most_letters → is_free me ≡ true →
     first_broken me (Puts to (l ∷ [])) ≡ None
 unfolding first_broken
-unbroken_put me to l here_within to_within direct is_to is_from tagged few none =
+unbroken_put me to l here_within to_within direct is_to is_from tagged few may =
     let start : Local = having_put me to [] in
     let to_l : l.to < me.layout.ranks = omega (arith, is_to) in
     let from_l : l.from < me.layout.ranks = omega (arith, is_from) in
     let leads : to ≡ hop me.layout me.scheme me.here l.to =
     (let P : Scheme → Type 0 = λ scheme. to ≡ hop me.layout scheme me.here l.to in
     subst P (sym direct) (sym is_to ∙ sym (hop-direct me.layout me.here l.to))) in
-    let count : is_count l ≡ false = not_count l tagged in
-    let total : is_total l ≡ false = not_total l tagged in
+    let count : is_count l ≡ false = data_not_count l tagged in
+    let total : is_total l ≡ false = data_not_total l tagged in
     let room : nat_lt (own_count me.here start.log) most_letters ≡ true = lt-ltb _ _ (omega (arith, few, own_count-empty me.here me.log to)) in
     let one : Deed = Puts to (l ∷ []) in
     let ranks : no_such_rank me one ≡ false = ranks_hold _ _ _ _ (lt-ltb _ _ here_within) (lt-ltb _ _ to_within) (lt-ltb _ _ to_l) (lt-ltb _ _ from_l) in
@@ -106,7 +83,7 @@ unbroken_put me to l here_within to_within direct is_to is_from tagged few none 
     let hops : some_letter wrong_hop me one ≡ false = or_nothing (wrong_hop start to l) (hop_right start to to l tagged leads refl) in
     let held : some_letter not_held me one ≡ false = or_nothing (not_held start to l) (held_own start to l tagged is_from) in
     let not_many : some_letter too_many_sent me one ≡ false = or_nothing (too_many_sent start to l) (rw room (and_false (is_data l && nat_eq l.from me.here))) in
-    let free : some_letter sent_while_counted me one ≡ false = or_nothing (sent_while_counted start to l) (free_to_send me to l none) in
+    let free : some_letter sent_while_counted me one ≡ false = or_nothing (sent_while_counted start to l) (free_to_send me to l may) in
     let control : some_letter wrong_control me one ≡ false = rw (count, total) refl in
     let early : some_letter count_early me one ≡ false = rw count refl in
     let unforwarded : some_letter count_unforwarded me one ≡ false = rw count refl in
@@ -134,6 +111,13 @@ own_letter here before after l alone loses tagged =
 one_of_sender : (here : ℕ) (l : Letter) → IsTrue (is_data l) → l.from ≡ here → of_sender here (l ∷ []) ≡ l ∷ []
 one_of_sender here l tagged is_from = let e : nat_eq l.from here ≡ true = eq-eqb _ _ is_from in rw (tagged, e) refl
 
+-- where a letter of its own is held, it is free
+free_with : (before after : List (List Letter)) (me : Local) → sent_number me.here (letters_of before) ≡ 1 + sent_number me.here (letters_of after) → MaySend me before → is_free me ≡ true
+free_with before after me count may = elim may [
+  | inl free ↦ free
+  | inr none ↦ absurd (omega (arith, count, ap length none, sent_number-is me.here (letters_of before)))
+]
+
 pub may_put_one : (here to n : ℕ) (before after : List (List Letter)) (state : PostState) (batch : List Letter) → MayPut here before state → to < length before → n ≡ length before →
     (l : Letter) × (batch ≡ l ∷ []) × IsHeldFor n to l → Loses before after batch → first_broken (local_at state here) (Puts to batch) ≡ None
 may_put_one here to n before after state batch may within all one loses =
@@ -149,7 +133,8 @@ may_put_one here to n before after state batch may within all one loses =
       sent_number-is here (letters_of after),
     ) in
     let P : List Letter → Type 0 = λ b. first_broken (local_at state here) (Puts to b) ≡ None in
-    subst P (sym one.1) (unbroken_put (local_at state here) to l may.within (omega (arith, may.all)) may.direct one.2.destination is_from one.2.tag (omega (arith, may.few, count)) (no_counts (state.log here) may.data_alone))
+    subst P (sym one.1) (unbroken_put (local_at state here) to l may.within (omega (arith, may.all)) may.direct one.2.destination is_from one.2.tag (omega (arith, may.few, count))
+    (free_with before after (local_at state here) count may.may_send))
 
 -- a batch that is held holds data letters alone
 pub one_tagged : (to n : ℕ) (batch : List Letter) → (l : Letter) × (batch ≡ l ∷ []) × IsHeldFor n to l → AllByRecursion (λ l. IsTrue (is_data l)) batch
@@ -174,6 +159,16 @@ honest_put here to batch old new same log ok honest =
     let now : local_at new here ≡ record (local_at old here) { log = old.log here ++ Put to batch ∷ [] } = (let a = same.layout in let b = same.scheme in cc) in
     subst IsHonest (sym now) more
 
+-- it may still send what it holds after a put of data letters
+may_still : (here to : ℕ) (batch : List Letter) (before after : List (List Letter)) (old new : PostState) → AllByRecursion (λ l. IsTrue (is_data l)) batch → Loses before after batch →
+    new.log here ≡ old.log here ++ Put to batch ∷ [] → SamePost here old new → MaySend (local_at old here) before → MaySend (local_at new here) after
+may_still here to batch before after old new tagged loses log same may =
+    let now : local_at new here ≡ having_put (local_at old here) to batch = (let a = same.layout in let b = same.scheme in cc) in
+    elim may [
+      | inl free ↦ inl (ap is_free now ∙ stays_free (local_at old here) (Put to batch) (data_uncounted batch tagged) free)
+      | inr none ↦ inr (nil_from_length _ (omega (arith, loses.senders here, ap length none)))
+    ]
+
 pub moved_one : (here to : ℕ) (batch : List Letter) (before after : List (List Letter)) (old new : PostState) → AllByRecursion (λ l. IsTrue (is_data l)) batch → first_broken (local_at old here) (Puts to batch) ≡ None →
     Loses before after batch → length after ≡ length before → new.log here ≡ old.log here ++ Put to batch ∷ [] → MoveKeeps here old new →
     Moved here before after old new (Put to batch ∷ [])
@@ -183,6 +178,7 @@ moved_one here to batch before after old new tagged ok loses all log keeps =
       puts = (tt, tt);
       data_alone = subst (AllByRecursion (λ l. IsTrue (is_data l))) (sym (append-nil batch)) tagged;
       honest = honest_put here to batch old new keeps.same log ok;
+      may_send = may_still here to batch before after old new tagged loses log keeps.same;
       sent_unchanged = λ d.
           ap (λ xs. pair_put here d xs ++ of_pair here d (letters_of after)) log
           ∙ ap (λ xs. xs ++ of_pair here d (letters_of after)) (pair_put-put here d (old.log here) to batch)
@@ -214,6 +210,7 @@ moved_none here before after old new held log keeps = record {
   puts = tt;
   data_alone = tt;
   honest = (let now : local_at new here ≡ local_at old here = (let a = keeps.same.layout in let b = keeps.same.scheme in cc) in subst IsHonest (sym now));
+  may_send = (let now : local_at new here ≡ local_at old here = (let a = keeps.same.layout in let b = keeps.same.scheme in cc) in λ may. subst (λ ls. MaySend (local_at new here) ls) (sym held) (subst (λ me. MaySend me before) (sym now) may));
   sent_unchanged = λ d. ap (λ xs. sent here d xs (letters_of after)) log ∙ ap (λ xs. sent here d (old.log here) (letters_of xs)) held;
   count_unchanged = omega (arith, ap (own_count here) log, ap (λ xs. sent_number here (letters_of xs)) held);
   none_more = λ f t none. ap (λ xs. of_pair f t (letters_of xs)) held ∙ none;
@@ -245,6 +242,7 @@ moved_then here a b c t u v first later m n = record {
   puts = all_append IsPut first later m.puts n.puts;
   data_alone = data_put first (first ++ later) later refl m.data_alone n.data_alone;
   honest = λ h. n.honest (m.honest h);
+  may_send = λ may. n.may_send (m.may_send may);
   sent_unchanged = λ d. n.sent_unchanged d ∙ m.sent_unchanged d;
   count_unchanged = n.count_unchanged ∙ m.count_unchanged;
   none_more = λ f d h. n.none_more f d (m.none_more f d h);

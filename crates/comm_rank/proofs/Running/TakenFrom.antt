@@ -8,14 +8,14 @@ use Rattle.world_core.specs.Post.{CountsNeverFall, TakeKeeps, PostState, TookBat
 use Rattle.world_core.specs.Rules.{IsHonest}
 use Rattle.world_core.proofs.Posts.CountsNeverFall.{after_took, after_took_none}
 use Rattle.comm_rank.specs.declared.fault.CommFault.{CommFault}
-use Rattle.comm_rank.specs.Agrees.{Agrees, Belongs}
+use Rattle.comm_rank.specs.Agrees.{Agrees, Belongs, MayTurn}
 use Rattle.comm_rank.specs.Fold.{Applies}
 use Rattle.comm_rank.specs.Rank.{IsSameRank, Rank, local_of}
 use Rattle.comm_rank.specs.Running.{HasRunAll, HasTakenFrom, IsFor, StuckIn, TakesKeep, WasCutFrom, begins_with_control, for_handlers}
 use Rattle.comm_rank.proofs.Agrees.Arrived.{Brings}
 use Rattle.comm_rank.proofs.Running.RunAll.{ran_none}
 use Rattle.comm_rank.proofs.Rank.Same.{belongs_still, same_rank_none}
-use Rattle.comm_rank.proofs.Agrees.AfterTake.{Arrival, agrees_now, arrival, cut_from, few_run, honest_took, link_unchanged, looked_none, not_looked_none, same_log, taken_here, taken_other, took_from, took_none}
+use Rattle.comm_rank.proofs.Agrees.AfterTake.{Arrival, agrees_now, arrival, cut_from, few_run, honest_took, link_unchanged, looked_none, may_turn_now, not_looked_none, same_log, taken_here, taken_other, took_from, took_none}
 
 -- the letters of a batch for handlers, by its first letter
 pub all_for_handlers : (batch : List Letter) (control : Bool) → control ≡ begins_with_control batch → control ≡ false → for_handlers batch ≡ batch
@@ -24,7 +24,7 @@ all_for_handlers batch control is none = rw (sym is ∙ none) refl
 pub none_for_handlers : (batch : List Letter) (control : Bool) → control ≡ begins_with_control batch → control ≡ true → for_handlers batch ≡ []
 none_for_handlers batch control is some = rw (sym is ∙ some) refl
 
-module _ {C : Type 0} (apply : Applies C) (start : C → C) (old : Rank C) (there from : ℕ) (before after : PostState) (e : there ≡ old.here) (belongs : Belongs apply start old before) (keeps : TakeKeeps there before after) where
+module _ {C : Type 0} (apply : Applies C) (start : C → C) (old : Rank C) (there from : ℕ) (before after : PostState) (e : there ≡ old.here) (belongs : Belongs apply start old before) (may : MayTurn old (before.log old.here)) (keeps : TakeKeeps there before after) where
   takes_keep : CountsNeverFall before after → (IsHonest (local_of old (before.log old.here)) → IsHonest (local_of old (after.log old.here))) → TakesKeep old before after
   takes_keep counts honest = record {
     work = record { same = same_log there old.here before after e keeps.same; honest = honest; stops = keeps.stops; halts = keeps.halts; counts = counts };
@@ -46,6 +46,7 @@ module _ {C : Type 0} (apply : Applies C) (start : C → C) (old : Rank C) (ther
     none_taken = record {
       taken = took_none from apply old (before.log old.here) (after.log old.here) log_same belongs.agrees.nothing_waits;
       belongs = belongs_still apply start old there before after keeps.same log_same belongs;
+      may_turn = subst (λ log. MayTurn old log) (sym log_same) may;
       looked = looked_none there old.here from before after e none.misses none.sees_none;
       others = λ other ne. not_looked_none there old.here other before after e none.log keeps.same (none.misses.others other ne);
     }
@@ -88,6 +89,7 @@ module _ {C : Type 0} (apply : Applies C) (start : C → C) (old : Rank C) (ther
                 scheme = keeps.same.scheme ∙ belongs.scheme ∙ sym same.scheme;
                 agrees = subst P (sym same.here) agrees;
               };
+              may_turn = may_turn_now apply old new log now from batch run same arrived.gained brings ran may;
               looked = inl (taken_here from batch log now arrived.gained);
               others = λ other ne. record {
                 taken = taken_other from other batch log now arrived.gained ne;

@@ -7,7 +7,7 @@ use Rattle.std.proofs.lemmas.List.Elements.{filter-append}
 use Rattle.std.proofs.lemmas.List.Quantifiers.{all_pairs_push}
 use Rattle.msg_codec.specs.declared.letter.Letter.{Letter}
 use Rattle.world_core.specs.declared.entry.Entry.{Entry}
-use Rattle.world_core.specs.Log.{batches_taken, letters_taken, letters_taken_by}
+use Rattle.world_core.specs.Log.{IsTake, batches_taken, letters_taken, letters_taken_by}
 use Rattle.world_core.specs.Pairs.{for_rank, is_of_pair, of_pair}
 use Rattle.world_core.specs.Post.{PostState}
 use Rattle.world_core.specs.Rising.{Rose}
@@ -16,7 +16,7 @@ use Rattle.comm_rank.specs.Fold.{Applies}
 use Rattle.comm_rank.specs.Rank.{Rank, IsSameRank, handed, ran_at, sent_to}
 use Rattle.comm_rank.specs.declared.fault.CommFault.{CommFault}
 use Rattle.comm_rank.specs.Running.{CutFrom, NotLookedAt, TookBelow, TookFrom, WasCutFrom}
-use Rattle.comm_rank.specs.Turns.{Advanced, CutOff, FullAtFirst, IsTake, LookedAt, WasCut, other_end}
+use Rattle.comm_rank.specs.Turns.{Advanced, CutOff, FullAtFirst, LookedAt, WasCut, other_end}
 use Rattle.comm_rank.proofs.Running.RunAll.{begun_same, folded_on, full_later, handed_on}
 use Rattle.comm_rank.proofs.Turns.Faults.{cause_on, if_full}
 
@@ -106,6 +106,7 @@ module _ {C : Type 0} (apply : Applies C) (old mid new : Rank C) (before between
             takes = all_append IsTake first.all.taken c.taken first.all.gained.takes c.gained.takes;
             in_order = in_order_more from first.all.taken c.taken first.all.gained.in_order first.below second.alone second.one;
             puts = c.gained.puts;
+            data_alone = c.gained.data_alone;
           };
           arrived =
               taken_append old.here first.all.taken c.taken

@@ -105,7 +105,7 @@ cut_at_once {C} apply me now log after none is same =
       placed = [];
       run = [];
       given = [];
-      gained = record { log = sym (append-nil (log ++ []) ∙ append-nil log); takes = tt; in_order = λ i j d less within. absurd (omega (arith, less, within)); puts = tt };
+      gained = record { log = sym (append-nil (log ++ []) ∙ append-nil log); takes = tt; in_order = λ i j d less within. absurd (omega (arith, less, within)); puts = tt; data_alone = tt };
       arrived = sym (ap (λ xs. for_rank me.here xs) none);
       ran = sym (append-nil _);
       begun = inl (refl, refl);

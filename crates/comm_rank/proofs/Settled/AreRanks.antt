@@ -12,9 +12,10 @@ use Rattle.world_core.specs.declared.entry.Entry.{Entry}
 use Rattle.world_core.specs.Plain.{Plain, fresh_links, state_of}
 use Rattle.world_core.specs.Post.{SamePost}
 use Rattle.world_core.specs.World.{log_of}
-use Rattle.comm_rank.specs.Agrees.{Agrees, Belongs}
+use Rattle.world_core.proofs.Counts.StaysFree.{free_uncounted, no_counts}
+use Rattle.comm_rank.specs.Agrees.{Agrees, Belongs, MayTurn, PutsData}
 use Rattle.comm_rank.specs.Fold.{Applies}
-use Rattle.comm_rank.specs.Rank.{Rank, IsSameRank, fresh_rank}
+use Rattle.comm_rank.specs.Rank.{Rank, IsSameRank, fresh_rank, local_of}
 use Rattle.comm_rank.specs.Settled.{AreRanks, FailedAt, IsRankOf}
 use Rattle.comm_rank.specs.declared.fault.CommFault.{CommFault}
 use Rattle.list_facts.proofs.Places.{same_item}
@@ -28,6 +29,10 @@ pushed P [] y each last zero x e = subst (P 0) (let same : y ≡ x = cc in same)
 pushed P [] y each last (suc k) x e = absurd cc
 pushed P (z ∷ xs) y each last zero x e = each zero x e
 pushed P (z ∷ xs) y each last (suc k) x e = pushed (λ j. P (suc j)) xs y (λ j w. each (suc j) w) last k x e
+
+-- a rank that put data letters alone has no Count, and so it is free
+pub may_turn_data : {C : Type 0} (me : Rank C) (log : List Entry) → PutsData log → MayTurn me log
+may_turn_data me log alone = inl (free_uncounted (local_of me log) (no_counts log alone))
 
 module _ {C : Type 0} (apply : Applies C) (start : C → C) where
   -- each rank that isn't stopped is one of the links' world
@@ -44,9 +49,14 @@ module _ {C : Type 0} (apply : Applies C) (start : C → C) where
     agrees = subst (λ r. Agrees apply start me (log_of links.world r)) (sym at.here) at.agrees;
   }
 
+  pub may_turn : (links : Plain) (rank : ℕ) (me : Rank C) → IsRankOf apply start links rank me → MayTurn me (log_of links.world me.here)
+  may_turn links rank me at =
+      let P : ℕ → Type 0 = λ h. MayTurn me (log_of links.world h) in
+      subst P (sym at.here) (may_turn_data me (log_of links.world rank) at.data_alone)
+
   pub stays : (old new : Plain) (rank : ℕ) (me now : Rank C) → IsRankOf apply start old rank me → IsSameRank me now → SamePost me.here (state_of old) (state_of new) →
-      now.stopped ≡ false → Belongs apply start now (state_of new) → IsRankOf apply start new rank now
-  stays old new rank me now at same post going belongs =
+      now.stopped ≡ false → Belongs apply start now (state_of new) → PutsData (log_of new.world me.here) → IsRankOf apply start new rank now
+  stays old new rank me now at same post going belongs alone =
       let here = same.here ∙ at.here in
       record {
         here = here;
@@ -55,6 +65,7 @@ module _ {C : Type 0} (apply : Applies C) (start : C → C) where
         going = going;
         few = omega (arith, at.few, same.most, post.batches);
         agrees = subst (λ r. Agrees apply start now (log_of new.world r)) here belongs.agrees;
+        data_alone = subst (λ r. PutsData (log_of new.world r)) at.here alone;
       }
 
   pub sends : (links : Plain) (rank : ℕ) (me now : Rank C) → IsSameRank me now → now.stopped ≡ me.stopped → ((log : List Entry) → Agrees apply start me log → Agrees apply start now log) →
@@ -66,6 +77,7 @@ module _ {C : Type 0} (apply : Applies C) (start : C → C) where
     going = stopped ∙ at.going;
     few = omega (arith, same.most, at.few);
     agrees = agrees _ at.agrees;
+    data_alone = at.data_alone;
   }
 
   -- a rank of which the others took no notice
@@ -77,6 +89,7 @@ module _ {C : Type 0} (apply : Applies C) (start : C → C) where
     going = at.going;
     few = omega (arith, at.few, post.batches);
     agrees = subst (Agrees apply start a) (sym (post.other_logs other ne)) at.agrees;
+    data_alone = subst (λ log. PutsData log) (sym (post.other_logs other ne)) at.data_alone;
   }
 
   -- ---- all ranks
@@ -116,10 +129,12 @@ module _ {C : Type 0} (apply : Applies C) (start : C → C) where
   -- ---- the start
 
   module _ (layout : Shape) (most ring batches : ℕ) (contents : C) (fresh : start contents ≡ contents) where
+    none_new : (rank : ℕ) → rank < layout.ranks → log_of (fresh_links layout Direct ring batches).world rank ≡ []
+    none_new rank within = get_or-replicate layout.ranks rank [] [] within
+
     agrees_new : (rank : ℕ) → rank < layout.ranks → Agrees apply start (fresh_rank layout Direct rank most contents) (log_of (fresh_links layout Direct ring batches).world rank)
     agrees_new rank within =
-        let none : log_of (fresh_links layout Direct ring batches).world rank ≡ [] = get_or-replicate layout.ranks rank [] [] within in
-        subst (Agrees apply start (fresh_rank layout Direct rank most contents)) (sym none) (agrees_fresh apply start layout Direct rank most contents refl fresh)
+        subst (Agrees apply start (fresh_rank layout Direct rank most contents)) (sym (none_new rank within)) (agrees_fresh apply start layout Direct rank most contents refl fresh)
 
     pub belongs_new : (rank : ℕ) → rank < layout.ranks → Belongs apply start (fresh_rank layout Direct rank most contents) (state_of (fresh_links layout Direct ring batches))
     belongs_new rank within = record { serves = lt-ltb _ _ within; layout = refl; scheme = refl; agrees = agrees_new rank within }
@@ -135,4 +150,5 @@ module _ {C : Type 0} (apply : Applies C) (start : C → C) where
           going = refl;
           few = few;
           agrees = agrees_new rank (omega (arith, within, all));
+          data_alone = subst (λ log. PutsData log) (sym (none_new rank (omega (arith, within, all)))) tt;
         })

@@ -15,7 +15,7 @@ use Rattle.world_core.specs.World.{log_of}
 use Rattle.comm_rank.specs.declared.fault.CommFault.{CommFault}
 use Rattle.comm_rank.specs.declared.fault.CommFault.TheVariants.{Stopped, CountFull, NoMemory}
 use Rattle.comm_rank.specs.declared.turn.Turn.{Turn}
-use Rattle.comm_rank.specs.Agrees.{Agrees, Belongs}
+use Rattle.comm_rank.specs.Agrees.{Agrees, Belongs, MayTurn}
 use Rattle.comm_rank.specs.Fault.{IfCountFull, IfStopped, IsFullAt, UnlessStopped}
 use Rattle.comm_rank.specs.Fold.{Applies}
 use Rattle.comm_rank.specs.Rank.{Rank, IsSameRank}
@@ -27,6 +27,7 @@ use Rattle.comm_rank.proofs.Turns.Faults.{full_at}
 use Rattle.comm_rank.proofs.Rank.Same.{same_rank_none}
 use Rattle.comm_rank.proofs.Turns.Faults.{unless_stopped_then}
 use Rattle.list_facts.proofs.Places.{item_set}
+use Rattle.comm_rank.proofs.Settled.AreRanks.{may_turn}
 use Rattle.comm_rank.proofs.Settled.TurnMoves.{TurnAt, others_go_on, others_unchanged}
 use Rattle.comm_rank.proofs.Settled.Stops.{if_stopped}
 
@@ -48,6 +49,9 @@ module _ {C : Type 0} (apply : Applies C) (start : C → C) (comms : List (Rank 
 
   pub belongs_here : Belongs apply start (get_or comms rank read) (state_of links)
   belongs_here = record { serves = serves; layout = sym mine.layout; scheme = sym mine.scheme; agrees = agrees_here }
+
+  pub may_turn_here : MayTurn (get_or comms rank read) (log_of links.world (get_or comms rank read).here)
+  may_turn_here = may_turn apply start links rank (get_or comms rank read) mine
 
 pub turn_at : {C : Type 0} (apply : Applies C) (start : C → C) (me now : Rank C) (old new : Plain) (turn : Turn) (rank : ℕ) → me.here ≡ rank → IsSameRank me now →
     HasEnded apply start me now (state_of old) (state_of new) turn → SamePost me.here (state_of old) (state_of new) → TurnAt apply start me now old new turn rank

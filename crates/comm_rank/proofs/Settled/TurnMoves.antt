@@ -19,13 +19,14 @@ use Rattle.world_core.specs.Post.{SamePost}
 use Rattle.world_core.specs.World.{link, log_of}
 use Rattle.world_core.proofs.Pairs.Numbers.{pair_within_sent}
 use Rattle.comm_rank.specs.declared.turn.Turn.{Turn}
-use Rattle.comm_rank.specs.Agrees.{Agrees}
+use Rattle.comm_rank.specs.Agrees.{Agrees, PutsData}
 use Rattle.comm_rank.specs.Fold.{Applies}
 use Rattle.comm_rank.specs.Rank.{Rank, IsSameRank, handed, held_letters, sent_to}
 use Rattle.comm_rank.specs.Settled.{AreRanks, AreSameLinks, AreSameRanks, HasAdvanced, IsLoaded, IsRankOf, NeverLess, SameLogs, TurnMoves, Untouched, held_in, sent_length, taken_length}
 use Rattle.comm_rank.specs.Store.{AreApart}
 use Rattle.comm_rank.specs.Turns.{Advanced, LookedAt, NoneOrFull, Turned}
 use Rattle.list_facts.proofs.Places.{same_item, item_set, item_kept}
+use Rattle.comm_rank.proofs.Agrees.AfterPuts.{data_gained}
 use Rattle.comm_rank.proofs.Settled.Advanced.{advanced_unchanged}
 use Rattle.comm_rank.proofs.Settled.Links.{PutData, carried_few, empty_link, one_more}
 use Rattle.comm_rank.proofs.Settled.Rounds.{same_taken}
@@ -38,14 +39,14 @@ sent_at comms links rank to me there here =
     let log = log_of links.world rank in
     ap (λ o. length (pair_put rank to log ++ of_pair rank to (held_in o))) there ∙ ap (λ h. length (pair_put h to log ++ of_pair h to (held_letters me))) (sym here)
 
--- ranks that agree with their logs put data letters alone, and there are no other logs
+-- ranks of the links' world put data letters alone, and there are no other logs
 pub data_of_ranks : {C : Type 0} (apply : Applies C) (start : C → C) (comms : List (Rank C)) (links : Plain) (some : Rank C) → AreRanks apply start comms links →
     length links.world.logs ≡ links.world.layout.ranks → PutData links.world
 data_of_ranks apply start comms links some ranks all rank = elim (cases_lt rank (length comms)) [
-  | inl within ↦ (ranks.each rank (get_or comms rank some) (slice_get-get_or comms rank some within)).agrees.data_alone
+  | inl within ↦ (ranks.each rank (get_or comms rank some) (slice_get-get_or comms rank some within)).data_alone
   | inr past ↦
       let none : log_of links.world rank ≡ [] = get_or_past links.world.logs rank [] (omega (arith, past, all, ranks.all)) in
-      let P : List Entry → Type 0 = λ log. AllByRecursion (λ l. IsTrue (is_data l)) (letters_put log) in
+      let P : List Entry → Type 0 = λ log. PutsData log in
       subst P (sym none) tt
 ]
 
@@ -106,6 +107,7 @@ module _ {C : Type 0} (apply : Applies C) (start : C → C) (comms : List (Rank 
           going = was.going;
           few = omega (arith, was.few, same.batches);
           agrees = subst (Agrees apply start a) (sym (same.other_logs other ne)) was.agrees;
+          data_alone = subst (λ log. PutsData log) (sym (same.other_logs other ne)) was.data_alone;
         }
 
   module _ (turn : Turn) (at : TurnAt apply start me now old new turn rank) where
@@ -121,6 +123,10 @@ module _ {C : Type 0} (apply : Applies C) (start : C → C) (comms : List (Rank 
           subst (λ x. Q x a) was (subst (Q me) becomes (_, at.turned.advanced)))
     ]
 
+    -- it put data letters alone
+    data_here : PutsData (log_of new.world rank)
+    data_here = data_gained (log_of old.world rank) (log_of new.world rank) at.turned.taken at.turned.placed at.turned.gained mine.data_alone
+
     pub ranks_after : now.stopped ≡ false → AreRanks apply start after new
     ranks_after going = record {
       all = length-set comms rank now ∙ ranks.all ∙ ap (λ (s : Shape). s.ranks) (sym at.same.layout);
@@ -135,6 +141,7 @@ module _ {C : Type 0} (apply : Applies C) (start : C → C) (comms : List (Rank 
               going = going;
               few = omega (arith, same_rank.most, mine.few, at.same.batches);
               agrees = at.agrees;
+              data_alone = data_here;
             } in
             subst (λ r. IsRankOf apply start new r a) (sym is) (subst (IsRankOf apply start new rank) becomes mine_now)
         | inr ne ↦ others_go_on at.same other a ne e
@@ -214,8 +221,8 @@ module _ {C : Type 0} (apply : Applies C) (start : C → C) (comms : List (Rank 
 
       data_now : PutData new.world
       data_now other = elim (cases_eq other rank) [
-        | inl is ↦ let P : ℕ → Type 0 = λ r. AllByRecursion (λ l. IsTrue (is_data l)) (letters_put (log_of new.world r)) in subst P (sym is) at.agrees.data_alone
-        | inr ne ↦ let P : List Entry → Type 0 = λ log. AllByRecursion (λ l. IsTrue (is_data l)) (letters_put log) in subst P (sym (at.same.other_logs other ne)) (data_before other)
+        | inl is ↦ let P : ℕ → Type 0 = λ r. PutsData (log_of new.world r) in subst P (sym is) data_here
+        | inr ne ↦ let P : List Entry → Type 0 = λ log. PutsData log in subst P (sym (at.same.other_logs other ne)) (data_before other)
       ]
 
       looks : (from : ℕ) → from < new.world.layout.ranks → (link old.world from rank ≡ []) ⊎ (taken_length old from rank + 1 ≤ taken_length new from rank)

@@ -1,15 +1,18 @@
 -- What a turn does, from its takes and its puts.
-use Rattle.std.proofs.Common.{◌≡◌, ℕ, ◌-◌, ◌^◌, min, Option, Some, None, List, [], ◌∷◌, ◌++◌, refl, sym, ap, ◌∙◌, subst, inl, inr, length, arith, append-nil}
+use Rattle.std.proofs.Common.{◌≡◌, ℕ, ◌-◌, ◌^◌, min, false, is_err, Result, Ok, Err, Option, Some, None, List, [], ◌∷◌, ◌++◌, refl, sym, ap, ◌∙◌, subst, inl, inr, length, arith, append-nil}
 use Rattle.std.specs.Bool.{IsTrue}
 use Rattle.std.specs.List.{AllByRecursion}
+use Rattle.std.specs.Result.{IfOk}
+use Rattle.std.proofs.lemmas.Bool.{false≢true}
 use Rattle.std.proofs.lemmas.List.Elements.{filter_map-append}
 use Rattle.msg_codec.specs.declared.letter.Letter.{Letter}
 use Rattle.world_core.specs.declared.entry.Entry.{Entry}
 use Rattle.world_core.specs.declared.entry.Entry.TheVariants.{Put, Took}
-use Rattle.world_core.specs.Log.{batches_taken, letters_taken, took_from}
+use Rattle.world_core.specs.Log.{IsPut, batches_taken, letters_taken, took_from}
 use Rattle.world_core.specs.Pairs.{for_rank, of_pair}
 use Rattle.world_core.specs.Post.{SameFulls, SameMisses, PostState, is_full_in}
 use Rattle.world_core.specs.Rising.{Rose}
+use Rattle.comm_rank.specs.Agrees.{PutsData}
 use Rattle.comm_rank.specs.declared.fault.CommFault.{CommFault}
 use Rattle.comm_rank.specs.declared.fault.CommFault.TheVariants.{NoMemory}
 use Rattle.comm_rank.specs.Fold.{Applies}
@@ -17,7 +20,8 @@ use Rattle.comm_rank.specs.declared.turn.Turn.{Turn}
 use Rattle.comm_rank.specs.Moves.{PutOut}
 use Rattle.comm_rank.specs.Rank.{Rank, halted, handed, sent_to}
 use Rattle.comm_rank.specs.Running.{TookAll}
-use Rattle.comm_rank.specs.Turns.{CutOff, FirstFull, FullAtFirst, IsCause, IsPut, LookedAt, NoneOrFull, Turned, WasCut}
+use Rattle.comm_rank.specs.Turns.{CutOff, FirstFull, FullAtFirst, HasEnded, IsCause, LookedAt, NoneOrFull, Turned, WasCut}
+use Rattle.comm_rank.proofs.Agrees.AfterPuts.{data_gained}
 use Rattle.comm_rank.proofs.Turns.Faults.{if_full}
 
 none_taken : (from : ℕ) (placed : List Entry) → AllByRecursion IsPut placed → batches_taken from placed ≡ []
@@ -46,7 +50,7 @@ module _ {C : Type 0} (apply : Applies C) (old mid new : Rank C) (before between
         placed = placed;
         run = run;
         given = [];
-        gained = record { log = whole_log; takes = first.gained.takes; in_order = first.gained.in_order; puts = out.puts };
+        gained = record { log = whole_log; takes = first.gained.takes; in_order = first.gained.in_order; puts = out.puts; data_alone = out.data_alone };
         arrived = sym (append-nil run) ∙ ap (λ xs. run ++ for_rank old.here xs) (sym waits);
         ran = out.ran ∙ first.advanced.ran;
         begun = inl (still (λ me. me.contents) ∙ first.advanced.contents, refl);
@@ -59,7 +63,7 @@ module _ {C : Type 0} (apply : Applies C) (old mid new : Rank C) (before between
   turned turn t p = record {
     taken = first.taken;
     placed = placed;
-    gained = record { log = whole_log; takes = first.gained.takes; in_order = first.gained.in_order; puts = out.puts };
+    gained = record { log = whole_log; takes = first.gained.takes; in_order = first.gained.in_order; puts = out.puts; data_alone = out.data_alone };
     advanced = record {
       ran = out.ran ∙ first.advanced.ran;
       contents = still (λ me. me.contents) ∙ first.advanced.contents;
@@ -146,3 +150,10 @@ module _ {C : Type 0} (apply : Applies C) (old was mid : Rank C) (before looked 
         full_at_first = if_full fault (λ _ full. full_stopped full) w.full_at_first;
         cause = record { count_full = cause.count_full; gave = cause.gave; never_stopped = cause.never_stopped };
       }
+
+-- a rank that isn't stopped after a turn has put data letters alone
+pub data_after : {C : Type 0} (apply : Applies C) (start : C → C) (me now : Rank C) (old new : PostState) (r : Result Turn CommFault) → IfOk r (HasEnded apply start me now old new) →
+    now.stopped ≡ is_err r → now.stopped ≡ false → PutsData (old.log me.here) → PutsData (new.log me.here)
+data_after apply start me now old new (Ok turn) ended is going alone =
+    data_gained (old.log me.here) (new.log me.here) ended.turned.taken ended.turned.placed ended.turned.gained alone
+data_after apply start me now old new (Err fault) ended is going alone = absurd (false≢true (sym going ∙ is))

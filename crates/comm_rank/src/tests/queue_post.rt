@@ -163,14 +163,14 @@ struct Lone<H: Handler, P: Post + Drop> {
 
 impl<H: Handler, P: Post + Drop> Model for Lone<H, P> {
     ghost use Rattle.std.specs.Prelude.{◌≡◌, false};
-    ghost use Rattle.comm_rank.specs.Agrees.{Belongs};
+    ghost use Rattle.comm_rank.specs.Agrees.{Belongs, PutsData};
     ghost use Rattle.comm_rank.specs.Rank.{Rank};
 
     ghost Value = { Rank H };
 
     ghost view = { λ lone. lone.comm.value };
 
-    ghost invariant = { λ lone. lone.comm.value.stopped ≡ false → Belongs H.apply H.start lone.comm.value (P.state lone.post.value) };
+    ghost invariant = { λ lone. lone.comm.value.stopped ≡ false → Belongs H.apply H.start lone.comm.value (P.state lone.post.value) × PutsData ((P.state lone.post.value).log lone.comm.value.here) };
 }
 
 // A rank that has a queue for its post.

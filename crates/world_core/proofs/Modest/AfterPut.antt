@@ -8,7 +8,7 @@ use Rattle.world_core.specs.declared.entry.Entry.TheVariants.{Put, Took}
 use Rattle.world_core.specs.ControlRules.{run_taken, sent_taken}
 use Rattle.world_core.specs.Counts.{count_taken}
 use Rattle.world_core.specs.Local.{Local, having_put}
-use Rattle.world_core.specs.Log.{batches_taken}
+use Rattle.world_core.specs.Log.{IsPut, batches_taken}
 use Rattle.world_core.specs.Modest.{AreInTurn, IsModest, too_soon}
 use Rattle.world_core.specs.Rounds.{sums_in}
 use Rattle.world_core.proofs.Log.Appended.{batches_taken-put}
@@ -56,11 +56,7 @@ module _ (me : Local) (to : ℕ) (batch : List Letter) where
     control = in_turn_put modest.control;
   }
 
--- all of these entries are puts
-abbrev pub IsPut : Entry → Type 0
-IsPut (Put to letters) = Unit {0}
-IsPut (Took from letters) = ⊥
-
+-- and so after several puts
 pub modest_puts : (me : Local) (placed : List Entry) → AllByRecursion IsPut placed → IsModest me → IsModest (record me { log = me.log ++ placed })
 modest_puts me [] puts modest = rw (append-nil me.log) modest
 modest_puts me (Put to batch ∷ placed) puts modest =

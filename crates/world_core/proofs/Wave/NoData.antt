@@ -21,18 +21,13 @@ use Rattle.world_core.specs.Wave.{data_of}
 use Rattle.world_core.proofs.Counts.AfterPut.{counts-none}
 use Rattle.world_core.proofs.Counts.BeforeCount.{before_all}
 use Rattle.world_core.proofs.Deeds.Unbroken.{Unbroken}
+use Rattle.world_core.proofs.Deeds.TwoKinds.{data_not_count}
 use Rattle.world_core.proofs.Deeds.Unmixed.{no_control, no_count}
 use Rattle.world_core.proofs.Pairs.Numbers.{own_count-put, sent_number-append, sent_number-one}
 use Rattle.world_core.proofs.Wave.HeldBack.{IsFrozen, own_refused, other_refused}
 use Rattle.world_core.proofs.Wave.Unmoved.{HasNoData}
 
 -- ---- the letters of a batch that breaks no rule
-
-data_not_count : (l : Letter) → is_data l ≡ true → is_count l ≡ false
-data_not_count l is = false_from_ne_true (is_count l) (λ count.
-    let below : l.tag < 240 = ltb-true _ _ is in
-    let at : l.tag ≡ 240 = eqb-true _ _ (and_first _ _ count) in
-    absurd (omega (arith, below, at)))
 
 -- one that begins with a data letter holds no Count
 puts_no_count : (me : Local) (to : ℕ) (l : Letter) (more : List Letter) → is_data l ≡ true → mixed_control me (Puts to (l ∷ more)) ≡ false →

@@ -59,6 +59,7 @@ module _ (n rank : ℕ) (comms : List (Rank Counts)) (links : Plain) (old now : 
           going = ap (λ (r : Rank Counts). r.stopped) held ∙ was.going;
           few = omega (arith, was.few, ap (λ (r : Rank Counts). r.most) held);
           agrees = keeps (log_of links.world rank) was.agrees;
+          data_alone = was.data_alone;
         } in
         record {
           ranks = record {

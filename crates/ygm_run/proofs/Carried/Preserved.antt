@@ -61,6 +61,7 @@ module _ (layout : Shape) (ring batches : ℕ) (comms : List (Rank Counts)) (lin
         going = ap (λ (r : Rank Counts). r.stopped) (fresh rank me at);
         few = omega (arith, few, ap (λ (r : Rank Counts). r.most) (fresh rank me at), ap (λ (l : Plain). l.batches) none);
         agrees = rw (no_log rank me at, fresh rank me at) (agrees_fresh counting_apply (λ _. []) layout Direct rank most_letters [] refl refl);
+        data_alone = rw (no_log rank me at) tt;
       };
     };
     most = λ rank me at. ap (λ (r : Rank Counts). r.most) (fresh rank me at);

@@ -7,7 +7,7 @@ use Rattle.comm_rank.specs.Fault.{IfStopped, UnlessStopped}
 use Rattle.comm_rank.specs.Rank.{Rank}
 use Rattle.comm_rank.specs.Store.{AreApart}
 use Rattle.comm_rank.specs.Turns.{HasFailed, HasHalted}
-use Rattle.comm_rank.proofs.Settled.PlainTurn.{belongs_here, failed_at, halted_at, logs_grow, mine, of_now, there, turn_at}
+use Rattle.comm_rank.proofs.Settled.PlainTurn.{belongs_here, failed_at, halted_at, logs_grow, may_turn_here, mine, of_now, there, turn_at}
 use Rattle.comm_rank.proofs.Rank.Same.{worked_same}
 use Rattle.comm_rank.proofs.Settled.Stops.{met_then, raised_by}
 use Rattle.comm_rank.proofs.barrier.turn_of.Goals as goal
@@ -17,6 +17,9 @@ turn-requires-clause-going g c = (mine g.H.Handler.apply g.H.Handler.start c.arg
 
 pub turn-requires-clause-belongs : goal.turn-requires-clause-belongs
 turn-requires-clause-belongs g c = belongs_here g.H.Handler.apply g.H.Handler.start c.args.comms.now c.args.links.now c.args.rank c.requires.ranks c.requires.within c.index-comms-rank.result
+
+pub turn-requires-clause-may_turn : goal.turn-requires-clause-may_turn
+turn-requires-clause-may_turn g c = may_turn_here g.H.Handler.apply g.H.Handler.start c.args.comms.now c.args.links.now c.args.rank c.requires.ranks c.requires.within c.index-comms-rank.result
 
 pub returns-clause-same_ranks : goal.returns-clause-same_ranks
 returns-clause-same_ranks g c =

@@ -1,5 +1,6 @@
-use Rattle.std.proofs.Common.{ℕ, IfErr, refl, subst, arith, rules}
+use Rattle.std.proofs.Common.{ℕ, IfErr, refl, sym, subst, arith, rules}
 use Rattle.std.proofs.lemmas.Result.{IfErr-weaker}
+use Rattle.comm_rank.specs.Agrees.{MayTurn}
 use Rattle.comm_rank.specs.Running.{TookFrom, WasCutFrom}
 use Rattle.comm_rank.proofs.Running.TookBelow.{cut_later, joined, looked_below, not_looked_above, took_nothing}
 use Rattle.comm_rank.proofs.Running.Keeps.{takes_none, takes_then}
@@ -10,6 +11,7 @@ pub loop-from-init : goal.loop-from-init
 loop-from-init g c = record {
   taken = took_nothing g.H.Handler.apply c.args.self.now _ 0 c.requires.belongs.agrees.nothing_waits;
   belongs = c.requires.belongs;
+  may_turn = c.requires.may_turn;
   looked = λ k none. absurd (omega (arith, none));
   others = λ k past. record { taken = refl; misses = refl; serves = refl; link = refl };
   keeps = takes_none c.args.self.now (g.P.Post.state c.args.post.now);
@@ -17,6 +19,12 @@ loop-from-init g c = record {
   ranks = c.ranks-from-end.ensures.value;
   few = omega arith;
 }
+
+pub take_from-requires-clause-may_turn : goal.take_from-requires-clause-may_turn
+take_from-requires-clause-may_turn g c =
+    let inv = c.loop-from.invariant in
+    let M : ℕ → Type 0 = λ h. MayTurn c.loop-from.self ((g.P.Post.state c.loop-from.post).log h) in
+    subst M (sym (same_rank c.args.self.now c.loop-from.self inv.rank).here) inv.may_turn
 
 pub returns-in_err-took-clause-cut : goal.returns-in_err-took-clause-cut
 returns-in_err-took-clause-cut g c =
@@ -58,6 +66,7 @@ loop-from-preserved g c =
     record {
       taken = joined apply old mid new _ _ _ same from c.loop-from.took inv.taken c.in_ok-took.field-0 second;
       belongs = has.belongs;
+      may_turn = (let M : ℕ → Type 0 = λ h. MayTurn new ((state c.take_from.new.post).log h) in subst M same.here has.may_turn);
       looked = looked_below old.here mid.here from _ _ _ same.here inv.looked inv.others has.looked has.others;
       others = not_looked_above old.here mid.here from _ _ _ same.here inv.others has.others;
       keeps = takes_then old mid same _ _ _ inv.keeps c.take_from.ensures.keeps;
@@ -72,5 +81,6 @@ returns-clause-took g c =
     record {
       taken = inv.taken.all;
       belongs = inv.belongs;
+      may_turn = inv.may_turn;
       takes_from_each = λ from within. inv.looked from (omega (arith, within, c.loop-from-test.false, inv.ranks));
     }

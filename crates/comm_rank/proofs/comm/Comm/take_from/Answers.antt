@@ -9,11 +9,11 @@ use Rattle.comm_rank.proofs.comm.Comm.take_from.Goals as goal
 
 pub returns-in_default-clause-took : goal.returns-in_default-clause-took
 returns-in_default-clause-took g c =
-    none_taken g.H.Handler.apply g.H.Handler.start c.args.self.now _ c.args.from _ _ (ap (λ (me : Rank _). me.here) c.self.view_is) c.requires.belongs c.take.ensures.keeps (c.in_default.ensures.none refl)
+    none_taken g.H.Handler.apply g.H.Handler.start c.args.self.now _ c.args.from _ _ (ap (λ (me : Rank _). me.here) c.self.view_is) c.requires.belongs c.requires.may_turn c.take.ensures.keeps (c.in_default.ensures.none refl)
 
 pub returns-in_default-clause-keeps : goal.returns-in_default-clause-keeps
 returns-in_default-clause-keeps g c =
-    none_keeps g.H.Handler.apply g.H.Handler.start c.args.self.now _ c.args.from _ _ (ap (λ (me : Rank _). me.here) c.self.view_is) c.requires.belongs c.take.ensures.keeps (c.in_default.ensures.none refl)
+    none_keeps g.H.Handler.apply g.H.Handler.start c.args.self.now _ c.args.from _ _ (ap (λ (me : Rank _). me.here) c.self.view_is) c.requires.belongs c.requires.may_turn c.take.ensures.keeps (c.in_default.ensures.none refl)
 
 pub returns-then-begins_with_control-clause-took : goal.returns-then-begins_with_control-clause-took
 returns-then-begins_with_control-clause-took g c =
@@ -21,7 +21,7 @@ returns-then-begins_with_control-clause-took g c =
     let here = ap (λ (me : Rank _). me.here) c.self.view_is in
     let direct = sym (ap (λ (me : Rank _). me.scheme) c.self.view_is) ∙ c.self.invariant.1 in
     let batch = c.in-Some.batch in
-    control_taken g.H.Handler.apply g.H.Handler.start old _ c.args.from _ _ here c.requires.belongs c.take.ensures.keeps batch c.in-Some.ensures.took direct c.requires.sender
+    control_taken g.H.Handler.apply g.H.Handler.start old _ c.args.from _ _ here c.requires.belongs c.requires.may_turn c.take.ensures.keeps batch c.in-Some.ensures.took direct c.requires.sender
     (none_for_handlers batch _ c.begins_with_control.ensures c.if-begins_with_control.true) g.met.H.Handler.keeps_start
 
 pub returns-then-begins_with_control-clause-keeps : goal.returns-then-begins_with_control-clause-keeps
@@ -29,7 +29,7 @@ returns-then-begins_with_control-clause-keeps g c =
     let old = c.args.self.now in
     let here = ap (λ (me : Rank _). me.here) c.self.view_is in
     let direct = sym (ap (λ (me : Rank _). me.scheme) c.self.view_is) ∙ c.self.invariant.1 in
-    batch_keeps g.H.Handler.apply g.H.Handler.start old _ c.args.from _ _ here c.requires.belongs c.take.ensures.keeps c.in-Some.batch c.in-Some.ensures.took direct c.requires.sender
+    batch_keeps g.H.Handler.apply g.H.Handler.start old _ c.args.from _ _ here c.requires.belongs c.requires.may_turn c.take.ensures.keeps c.in-Some.batch c.in-Some.ensures.took direct c.requires.sender
 
 pub run_waiting-requires-clause-for_here : goal.run_waiting-requires-clause-for_here
 run_waiting-requires-clause-for_here g c =
@@ -37,7 +37,7 @@ run_waiting-requires-clause-for_here g c =
     let here = ap (λ (me : Rank _). me.here) c.self.view_is in
     let direct = sym (ap (λ (me : Rank _). me.scheme) c.self.view_is) ∙ c.self.invariant.1 in
     waiting_for _ old c.in-Some.batch c.of.result c.self.view_is c.of.ensures
-    (batch_for g.H.Handler.apply g.H.Handler.start old _ c.args.from _ _ here c.requires.belongs c.take.ensures.keeps c.in-Some.batch c.in-Some.ensures.took direct c.requires.sender c.in-Some.batch (all_for_handlers c.in-Some.batch _ c.begins_with_control.ensures c.if-begins_with_control.false))
+    (batch_for g.H.Handler.apply g.H.Handler.start old _ c.args.from _ _ here c.requires.belongs c.requires.may_turn c.take.ensures.keeps c.in-Some.batch c.in-Some.ensures.took direct c.requires.sender c.in-Some.batch (all_for_handlers c.in-Some.batch _ c.begins_with_control.ensures c.if-begins_with_control.false))
 
 pub run_waiting-requires-clause-few : goal.run_waiting-requires-clause-few
 run_waiting-requires-clause-few g c =
@@ -45,7 +45,7 @@ run_waiting-requires-clause-few g c =
     let here = ap (λ (me : Rank _). me.here) c.self.view_is in
     let direct = sym (ap (λ (me : Rank _). me.scheme) c.self.view_is) ∙ c.self.invariant.1 in
     few_waiting _ old c.in-Some.batch c.of.result c.self.view_is c.of.ensures
-    (batch_few g.H.Handler.apply g.H.Handler.start old _ c.args.from _ _ here c.requires.belongs c.take.ensures.keeps c.in-Some.batch c.in-Some.ensures.took direct c.requires.sender c.in-Some.batch (all_for_handlers c.in-Some.batch _ c.begins_with_control.ensures c.if-begins_with_control.false))
+    (batch_few g.H.Handler.apply g.H.Handler.start old _ c.args.from _ _ here c.requires.belongs c.requires.may_turn c.take.ensures.keeps c.in-Some.batch c.in-Some.ensures.took direct c.requires.sender c.in-Some.batch (all_for_handlers c.in-Some.batch _ c.begins_with_control.ensures c.if-begins_with_control.false))
 
 pub returns-in_err-run_waiting-clause-cut : goal.returns-in_err-run_waiting-clause-cut
 returns-in_err-run_waiting-clause-cut g c =
@@ -59,7 +59,7 @@ returns-in_err-run_waiting-clause-cut g c =
     let same : IsSameRank old new = same_from _ old new c.of.result c.self.view_is (same_rank was new c.run_waiting.ensures.rank) in
     let there : IfErr c.from_residual.result (StuckIn apply was new c.of.result) = search rules in
     IfErr-weaker c.from_residual.result _ _
-    (λ fault stuck. batch_cut apply g.H.Handler.start old _ c.args.from _ _ here c.requires.belongs c.take.ensures.keeps c.in-Some.batch c.in-Some.ensures.took direct c.requires.sender c.in-Some.batch (all_for_handlers c.in-Some.batch _ c.begins_with_control.ensures c.if-begins_with_control.false) new same fault
+    (λ fault stuck. batch_cut apply g.H.Handler.start old _ c.args.from _ _ here c.requires.belongs c.requires.may_turn c.take.ensures.keeps c.in-Some.batch c.in-Some.ensures.took direct c.requires.sender c.in-Some.batch (all_for_handlers c.in-Some.batch _ c.begins_with_control.ensures c.if-begins_with_control.false) new same fault
     (stuck_waiting apply _ old new c.of.result c.in-Some.batch c.self.view_is c.of.ensures fault stuck)) there
 
 pub returns-in_err-run_waiting-clause-keeps : goal.returns-in_err-run_waiting-clause-keeps
@@ -67,7 +67,7 @@ returns-in_err-run_waiting-clause-keeps g c =
     let old = c.args.self.now in
     let here = ap (λ (me : Rank _). me.here) c.self.view_is in
     let direct = sym (ap (λ (me : Rank _). me.scheme) c.self.view_is) ∙ c.self.invariant.1 in
-    batch_keeps g.H.Handler.apply g.H.Handler.start old _ c.args.from _ _ here c.requires.belongs c.take.ensures.keeps c.in-Some.batch c.in-Some.ensures.took direct c.requires.sender
+    batch_keeps g.H.Handler.apply g.H.Handler.start old _ c.args.from _ _ here c.requires.belongs c.requires.may_turn c.take.ensures.keeps c.in-Some.batch c.in-Some.ensures.took direct c.requires.sender
 
 pub returns-clause-took : goal.returns-clause-took
 returns-clause-took g c =
@@ -77,7 +77,7 @@ returns-clause-took g c =
     let direct = sym (ap (λ (me : Rank _). me.scheme) c.self.view_is) ∙ c.self.invariant.1 in
     let same : IsSameRank old new = same_from _ old new c.of.result c.self.view_is (same_rank _ new c.run_waiting.ensures.rank) in
     let ran = c.in_ok-run_waiting.ensures.ran in
-    batch_taken g.H.Handler.apply g.H.Handler.start old _ c.args.from _ _ here c.requires.belongs c.take.ensures.keeps c.in-Some.batch c.in-Some.ensures.took direct c.requires.sender c.in-Some.batch (all_for_handlers c.in-Some.batch _ c.begins_with_control.ensures c.if-begins_with_control.false) new same
+    batch_taken g.H.Handler.apply g.H.Handler.start old _ c.args.from _ _ here c.requires.belongs c.requires.may_turn c.take.ensures.keeps c.in-Some.batch c.in-Some.ensures.took direct c.requires.sender c.in-Some.batch (all_for_handlers c.in-Some.batch _ c.begins_with_control.ensures c.if-begins_with_control.false) new same
     g.met.H.Handler.keeps_start ran.nothing_waits (ran_waiting g.H.Handler.apply _ old new c.of.result c.in-Some.batch c.self.view_is c.of.ensures ran.ran)
 
 pub returns-clause-keeps : goal.returns-clause-keeps
@@ -85,4 +85,4 @@ returns-clause-keeps g c =
     let old = c.args.self.now in
     let here = ap (λ (me : Rank _). me.here) c.self.view_is in
     let direct = sym (ap (λ (me : Rank _). me.scheme) c.self.view_is) ∙ c.self.invariant.1 in
-    batch_keeps g.H.Handler.apply g.H.Handler.start old _ c.args.from _ _ here c.requires.belongs c.take.ensures.keeps c.in-Some.batch c.in-Some.ensures.took direct c.requires.sender
+    batch_keeps g.H.Handler.apply g.H.Handler.start old _ c.args.from _ _ here c.requires.belongs c.requires.may_turn c.take.ensures.keeps c.in-Some.batch c.in-Some.ensures.took direct c.requires.sender

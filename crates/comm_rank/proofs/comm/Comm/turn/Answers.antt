@@ -1,10 +1,18 @@
-use Rattle.std.proofs.Common.{◌≡◌, ◌∙◌, ap, refl, subst, true}
+use Rattle.std.proofs.Common.{◌≡◌, ◌∙◌, ap, refl, sym, subst, true}
 use Rattle.std.proofs.lemmas.Result.{IfErr-weaker}
+use Rattle.comm_rank.specs.Agrees.{MayTurn}
 use Rattle.comm_rank.specs.Rank.{Rank}
 use Rattle.comm_rank.proofs.Rank.Same.{same_rank}
 use Rattle.comm_rank.proofs.Turns.Faults.{unless_stopped}
 use Rattle.comm_rank.proofs.Turns.Outcomes.{log_at, was_cut_stopped}
 use Rattle.comm_rank.proofs.comm.Comm.turn.Goals as goal
+
+pub work-ended-requires-clause-may_turn : goal.work-ended-requires-clause-may_turn
+work-ended-requires-clause-may_turn g c =
+    let old = c.args.self.now in
+    let here = ap (λ (me : Rank _). me.here) c.self.view_is in
+    let same = log_at c.self.inside.here old.here (g.P.Post.state c.args.post.now).log (g.P.Post.state c.stopped.new.self).log here c.stopped.ensures.keeps.log in
+    subst (λ log. MayTurn old log) (sym same) c.requires.may_turn
 
 pub returns-then-is_err-clause-failed : goal.returns-then-is_err-clause-failed
 returns-then-is_err-clause-failed g c =

@@ -1,11 +1,18 @@
-use Rattle.std.proofs.Common.{ℕ, IfErr, refl, ap, ◌∙◌, subst, arith, rules}
+use Rattle.std.proofs.Common.{ℕ, IfErr, refl, sym, ap, ◌∙◌, subst, arith, rules}
 use Rattle.std.proofs.lemmas.Result.{IfErr-weaker}
 use Rattle.ygm_route.specs.Layout.{Shape}
+use Rattle.comm_rank.specs.Agrees.{MayTurn}
 use Rattle.comm_rank.specs.Moves.{PutAllFailed, PutOut}
 use Rattle.comm_rank.proofs.Running.Keeps.{puts_then}
 use Rattle.comm_rank.proofs.Rank.Same.{same_rank}
 use Rattle.comm_rank.proofs.Turns.Outcomes.{full_then, looked_then, met_then, turned, was_cut}
 use Rattle.comm_rank.proofs.comm.Comm.work.Goals as goal
+
+pub put_all-requires-clause-may_turn : goal.put_all-requires-clause-may_turn
+put_all-requires-clause-may_turn g c =
+    let mid = c.take_all.new.self in
+    let M : ℕ → Type 0 = λ h. MayTurn mid ((g.P.Post.state c.take_all.new.post).log h) in
+    subst M (sym (same_rank c.args.self.now mid c.take_all.ensures.rank).here) c.in_ok-took.ensures.took.may_turn
 
 pub returns-in_err-put-clause-cut : goal.returns-in_err-put-clause-cut
 returns-in_err-put-clause-cut g c =
@@ -48,6 +55,7 @@ returns-clause-ended g c =
     record {
       turned = turned apply old mid new _ _ _ c.in_ok-took.took has.taken put.placed (subst P same.here put.out) _ refl put.count;
       belongs = c.put_all.ensures.belongs;
+      may_turn = (let M : ℕ → Type 0 = λ h. MayTurn new (d.log h) in subst M same.here c.put_all.ensures.may_turn);
       takes_from_each = λ from within. looked_then old.here mid.here a b d same.here puts.misses put.placed put.out.log put.out.puts from (has.takes_from_each from within);
       puts_to_each = λ to within. met_then old.here mid.here a b d same.here takes.fulls takes.work.same.serves to new.held (put.none_or_full to (omega (arith, within, ranks)));
       full = full_then old.here mid.here a b d same.here takes.fulls takes.work.same.serves old.layout.ranks mid.layout.ranks ranks new.held _ put.first_full;

@@ -1,9 +1,10 @@
-use Rattle.std.proofs.Common.{◌≡◌, ◌<◌, ◌∙◌, false, Some, slice_get, length, length-set, sym, ap, subst, arith, rules}
+use Rattle.std.proofs.Common.{◌≡◌, ℕ, ◌<◌, ◌∙◌, false, Some, slice_get, length, length-set, sym, ap, subst, arith, rules}
 use Rattle.std.proofs.lemmas.Option.{slice_get-get_or}
 use Rattle.ygm_route.specs.Layout.{Shape}
-use Rattle.world_core.specs.Plain.{state_of}
+use Rattle.world_core.specs.Plain.{Plain, state_of}
 use Rattle.world_core.specs.Post.{SamePost}
-use Rattle.comm_rank.specs.Agrees.{Belongs}
+use Rattle.world_core.specs.World.{log_of}
+use Rattle.comm_rank.specs.Agrees.{Belongs, PutsData}
 use Rattle.comm_rank.specs.Rank.{Rank}
 use Rattle.comm_rank.proofs.Settled.AreRanks.{belongs, other_stays, stand_set, stays}
 use Rattle.comm_rank.proofs.tests.Ranks.try_turn.Goals as goal
@@ -23,6 +24,7 @@ turn_of-requires g c =
     let at = c.self.invariant.2 rank me there going in
     record {
       going = going;
+      data_alone = (let P : ℕ → Type 0 = λ h. PutsData (log_of links.world h) in subst (λ (l : Plain). PutsData (log_of l.world me.here)) (sym c.deref_mut.ensures.value) (subst P (sym at.here) at.data_alone));
       belongs = subst (λ post. Belongs apply start me (state_of post)) (sym c.deref_mut.ensures.value) (belongs apply start links rank me (omega (arith, within, c.self.invariant.1, ap (λ (p : Shape). p.ranks) c.self.invariant.0)) at);
     }
 
@@ -46,6 +48,6 @@ invariant_of-self g c =
       post.layout ∙ c.self.invariant.0,
       length-set comms rank now ∙ c.self.invariant.1,
       stand_set apply start comms links new rank now within c.self.invariant.2
-          (λ still. stays apply start links new rank me now at e.same_rank post still (e.belongs still))
+          (λ still. stays apply start links new rank me now at e.same_rank post still (e.belongs still) (e.data_alone still))
           (λ other a ne. other_stays apply start links new rank other a ne (subst (λ r. SamePost r (state_of links) (state_of new)) at.here post)),
     )
