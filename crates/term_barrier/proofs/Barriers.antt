@@ -1,3 +1,4 @@
 pub mod Agrees
+pub mod Handed
 pub mod Knows
 pub mod Rounds

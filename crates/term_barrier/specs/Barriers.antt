@@ -1,5 +1,5 @@
 -- What is seen of a barrier, when it belongs to a log, and the outcomes of a poll.
-use Rattle.std.specs.Prelude.{◌≡◌, ℕ, pred, ◌+◌, ◌<◌, Bool, true, false, None, is_some, List, [], ◌++◌, drop, length, map, slice_index_or}
+use Rattle.std.specs.Prelude.{◌≡◌, ℕ, pred, ◌+◌, ◌<◌, ◌&&◌, ◌==◌, nat_lt, Bool, true, false, None, is_some, List, [], ◌∷◌, ◌++◌, drop, length, map, slice_index_or, if◌then◌else◌}
 use Rattle.std.specs.List.{filter}
 use Rattle.msg_codec.specs.Control.{is_control, run_of, sent_of}
 use Rattle.msg_codec.specs.declared.letter.Letter.{Letter}
@@ -12,7 +12,7 @@ use Rattle.world_core.specs.Local.{Local}
 use Rattle.world_core.specs.Log.{letters_taken}
 use Rattle.world_core.specs.Post.{PostState}
 use Rattle.world_core.specs.Rising.{Rose}
-use Rattle.world_core.specs.Rounds.{Sums, ended_below, first_round}
+use Rattle.world_core.specs.Rounds.{Sums, agree, ended_below, first_round}
 use Rattle.term_barrier.specs.Left.{HasLeft}
 
 -- ---- what control letters say
@@ -96,6 +96,27 @@ pub record BarrierAgrees (barrier : BarrierState) (kept : List Letter) (me : Loc
   pub its_rounds : AreItsRounds barrier handed me.log
   pub outside : barrier.inside ≡ false → is_counted me ≡ false
 
+-- ---- a barrier is handed a letter
+
+-- a round with these sums ends the barrier, if it is the next that it is told of
+abbrev pub is_last_round : BarrierState → Sums → Bool
+is_last_round barrier sums = nat_lt barrier.first barrier.known && agree barrier.last sums
+
+-- it was handed the Total of the next round
+abbrev pub with_total : BarrierState → Sums → BarrierState
+with_total barrier sums = record barrier {
+  left = if is_last_round barrier sums then barrier.left + 1 else barrier.left;
+  known = barrier.known + 1;
+  first = if is_last_round barrier sums then barrier.known + 1 else barrier.first;
+  last = sums;
+}
+
+-- it was handed the next Count of a rank
+abbrev pub with_count : BarrierState → ℕ → Sums → BarrierState
+with_count barrier from sums = record barrier {
+  gathered = λ rank. if from == rank then barrier.gathered rank ++ sums ∷ [] else barrier.gathered rank;
+}
+
 -- ---- the outcomes of a poll
 
 -- it took the Total that ends the barrier, of this number and at this round
@@ -104,6 +125,11 @@ pub record PolledLeft (old new : BarrierState) (me : Local) (number round : ℕ)
   pub has_left : HasLeft me number round
   pub one_more : new.left ≡ old.left + 1
   pub outside : new.inside ≡ false
+
+-- it took no Total that ends the barrier
+pub record PolledWaiting (old new : BarrierState) : Type 0 where
+  pub same_left : new.left ≡ old.left
+  pub inside : new.inside ≡ true
 
 -- how many batches a log took
 abbrev pub is_take : Entry → Bool

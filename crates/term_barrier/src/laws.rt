@@ -9,7 +9,7 @@
 //!
 //! A rank learns from the Totals that it took at which round it left a barrier. That round is the same for all ranks, and
 //! gives each the place of the barrier's quiet cut in its own log.
-ghost use Rattle.std.specs.Prelude.{◌≡◌, ◌+◌, ◌<◌, ◌≤◌, ℕ, suc, pred, false, IsTrue, List, [], ◌∷◌, ◌++◌, drop, length, option_map, slice_get, take, sum_by};
+ghost use Rattle.std.specs.Prelude.{◌≡◌, ◌+◌, ◌<◌, ◌≤◌, ℕ, suc, pred, true, false, IsTrue, List, [], ◌∷◌, ◌++◌, drop, length, option_map, slice_get, take, sum_by};
 ghost use Rattle.std.specs.List.{AllByRecursion};
 ghost use Rattle.list_facts.specs.Sublist.{IsSublist};
 ghost use Rattle.msg_codec.specs.declared.letter.Letter.{Letter};
@@ -17,7 +17,7 @@ ghost use Rattle.ygm_route.specs.declared.scheme.Scheme.{Scheme};
 ghost use Rattle.ygm_route.specs.Layout.{Shape};
 ghost use Rattle.world_core.specs.declared.entry.Entry.{Entry};
 ghost use Rattle.world_core.specs.ControlRules.{is_counted};
-ghost use Rattle.world_core.specs.Counts.{before_count, count_taken, counts, totals};
+ghost use Rattle.world_core.specs.Counts.{before_count, count_taken, counts, is_count_of, is_total_to, totals};
 ghost use Rattle.world_core.specs.Local.{Local, having_put, local_rank};
 ghost use Rattle.world_core.specs.Log.{letters_put, letters_taken};
 ghost use Rattle.world_core.specs.Modest.{IsModest};
@@ -32,7 +32,7 @@ ghost use Rattle.comm_rank.specs.Fold.{Applies, fold_from};
 ghost use Rattle.comm_rank.specs.Rank.{HasSent, IsSameRank, Rank, held_letters, local_of};
 ghost use Rattle.comm_rank.specs.Turns.{Turned};
 ghost use Rattle.term_barrier.specs.Account.{Account, IsUpToDate, RankHandler, handler_at, handler_of, with_more};
-ghost use Rattle.term_barrier.specs.Barriers.{AreItsRounds, BarrierAgrees, BarrierState, control_letters, fresh_barrier, sums_of};
+ghost use Rattle.term_barrier.specs.Barriers.{AreItsRounds, BarrierAgrees, BarrierState, control_letters, counts_heard, fresh_barrier, sums_of, with_count, with_total};
 ghost use Rattle.term_barrier.specs.CompleteRun.{IsCompleteRun, OwnLetters, earlier};
 ghost use Rattle.term_barrier.specs.CountedPlace.{AreCountedPlaces, IsCountedPlace, MovesNone};
 ghost use Rattle.term_barrier.specs.Cuts.{AreQuietCuts, IsQuietCut, arrivals_of, phase_part, phase_start};
@@ -176,22 +176,24 @@ pub fn each_count_of_a_barrier_is_at_a_counted_place<H: Handler>()
         AreCountedPlaces handler own begin first held log → AreCountedPlaces handler own begin later held log }
 {}
 
-/// A rank that leaves a barrier counted in its last two rounds since it left the barrier before. So the cut of the barrier
-/// is a counted place, and the phase of the rank ends there.
+/// A rank leaves a barrier at a round after the first of that barrier, whether the rank's log or its barrier says which was
+/// the first; and it put its Count of that round. So where each Count since the first round is at a counted place, so is
+/// the cut of the barrier, and the phase of the rank ends there.
 pub fn leaving_a_barrier_ends_a_phase<C>()
     ensures since { (me : Local) (more : List Entry) (round : ℕ) →
         HasLeft (gained me more) (barriers_left me) round → barrier_start me.here me.log < round }
+    ensures after_first { (barrier : BarrierState) (kept : List Letter) (me : Local) (more : List Entry) (round : ℕ) →
+        IsModest me → BarrierAgrees barrier kept me → HasLeft (gained me more) barrier.left round →
+        barrier.first < round }
     ensures put { (me : Local) (barrier round : ℕ) → IsModest me → HasLeft me barrier round → round < counts me.log }
     ensures cut { (handler : RankHandler C) (own : ℕ → List Letter) (begin first : ℕ) (held : List Letter) (me : Local)
         (round : ℕ) → AreCountedPlaces handler own begin first held me.log → first ≤ pred round →
         pred round < counts me.log → IsCountedPlace handler own begin (left_cut me round) held me.log }
-    ensures next { (handler : RankHandler C) (own : ℕ → ℕ → List Letter) (cut : ℕ → ℕ) (phase : ℕ)
-        (held : List Letter) (me : Local) (more : List Entry) (round : ℕ) → IsModest (gained me more) →
-        HasLeft (gained me more) (barriers_left me) round →
-        AreCountedPlaces handler (own phase) (phase_start cut phase) (barrier_start me.here me.log) held (me.log ++ more) →
-        cut phase ≡ left_cut (gained me more) round → ((to : ℕ) → own (suc phase) to ≡ []) →
-        Account handler own cut phase held (me.log ++ more) →
-        Account handler own cut (suc phase) held (me.log ++ more) }
+    ensures next { (handler : RankHandler C) (own : ℕ → ℕ → List Letter) (cut : ℕ → ℕ) (phase first : ℕ)
+        (held : List Letter) (me : Local) (barrier round : ℕ) → IsModest me → HasLeft me barrier round → first < round →
+        AreCountedPlaces handler (own phase) (phase_start cut phase) first held me.log →
+        cut phase ≡ left_cut me round → ((to : ℕ) → own (suc phase) to ≡ []) →
+        Account handler own cut phase held me.log → Account handler own cut (suc phase) held me.log }
 {}
 
 /// Worlds give what the laws below ask for. The cut at a quiet round is quiet, by the places of its Counts. In a sound
@@ -311,6 +313,18 @@ pub fn a_barrier_stays_in_agreement<C>()
         (agrees : BarrierAgrees old (letters ++ kept) me) → new.layout ≡ old.layout → new.here ≡ old.here →
         AreItsRounds new (agrees.handed ++ letters) me.log → (new.inside ≡ false → is_counted me ≡ false) →
         BarrierAgrees new kept me }
+{}
+
+/// The rounds of a barrier, after it was handed the Total of the next round, or at rank 0 a Count: of a rank from which it
+/// was handed the Counts of all rounds that are over.
+pub fn a_barrier_is_handed_control_letters()
+    ensures total { (barrier : BarrierState) (letters : List Letter) (log : List Entry) (l : Letter) →
+        is_total_to barrier.here l ≡ true → AreItsRounds barrier letters log →
+        AreItsRounds (with_total barrier (sums_of l)) (letters ++ l ∷ []) log }
+    ensures count { (barrier : BarrierState) (letters : List Letter) (log : List Entry) (l : Letter) →
+        is_count_of l.from l ≡ true → AreItsRounds barrier letters log →
+        totals 0 log ≤ length (counts_heard l.from letters) →
+        AreItsRounds (with_count barrier l.from (sums_of l)) (letters ++ l ∷ []) log }
 {}
 
 /// Where a barrier agrees with a modest log and its rank keeps no control letter, it knows the rounds of the log: how many

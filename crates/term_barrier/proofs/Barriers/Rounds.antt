@@ -1,18 +1,23 @@
 -- A barrier that agrees with a modest log, and was handed all control letters, knows the rounds of the log.
-use Rattle.std.proofs.Common.{◌≡◌, ℕ, zero, suc, pred, ◌+◌, ◌<◌, Bool, true, false, cond, option_map, List, [], ◌∷◌, drop, map, slice_get, refl, sym, ap, ◌∙◌, append-nil, arith}
+use Rattle.std.proofs.Common.{◌≡◌, ℕ, zero, suc, pred, ◌+◌, ◌<◌, ◌≤◌, Bool, true, false, cond, option_map, List, [], ◌∷◌, ◌++◌, drop, get_or, length, length-append, map, slice_get, refl, sym, ap, ◌∙◌, append-nil, arith}
 use Rattle.std.specs.List.{filter}
-use Rattle.std.proofs.lemmas.List.{length-map}
+use Rattle.std.proofs.Math.ListN.{get_or-append}
+use Rattle.std.proofs.lemmas.List.{length-map, map-append}
+use Rattle.std.proofs.lemmas.List.Elements.{filter-append}
 use Rattle.std.proofs.lemmas.Option.{slice_get-map}
+use Rattle.msg_codec.specs.declared.letter.Letter.{Letter}
+use Rattle.world_core.specs.declared.entry.Entry.{Entry}
 use Rattle.world_core.specs.Counts.{count_taken, is_count_of, is_total_to, totals}
 use Rattle.world_core.specs.Local.{Local}
 use Rattle.world_core.specs.Modest.{IsModest}
 use Rattle.world_core.specs.Rounds.{Sums, barrier_start, ended_below, ends, first_round, rounds_known, sums_told}
 use Rattle.world_core.proofs.Rounds.BarrierStart.{first_within}
-use Rattle.term_barrier.specs.Barriers.{BarrierAgrees, BarrierState, control_letters, counts_heard, sums_heard, sums_of}
-use Rattle.term_barrier.specs.Left.{HasLeft, barriers_left}
+use Rattle.term_barrier.specs.Barriers.{BarrierAgrees, BarrierState, control_letters, counts_heard, no_sums, sums_heard, sums_of, totals_heard}
+use Rattle.term_barrier.specs.Left.{HasLeft, barriers_left, gained}
 use Rattle.term_barrier.proofs.Barriers.Knows.{count_at, known_at, told_at}
+use Rattle.term_barrier.proofs.Left.Grown.{sums_stay}
 use Rattle.term_barrier.proofs.Left.SameSums.{ended_below-same, first_round-same}
-use Rattle.term_barrier.proofs.Left.Since.{one_more}
+use Rattle.term_barrier.proofs.Left.Since.{ends_later, one_more}
 
 -- a round after which a barrier begins ended the one before
 ended_there : (sums : ℕ → Sums) (q : ℕ) → first_round sums (suc q) ≡ suc q → ends sums q ≡ true
@@ -80,3 +85,39 @@ module _ (barrier : BarrierState) (me : Local) (modest : IsModest me) (agrees : 
       let ended : ends sums round ≡ true = ended_there sums round begins in
       let number : barrier.left ≡ suc (ended_below sums round) = left_is ∙ ap (ended_below sums) rounds ∙ one_more sums round ended in
       record { known = omega (arith, rounds); ended = ended; number = sym (ap pred number) }
+
+-- ---- a barrier whose rank keeps letters
+
+module _ (barrier : BarrierState) (kept : List Letter) (me : Local) (modest : IsModest me) (agrees : BarrierAgrees barrier kept me) where
+  both_heard : totals_heard me.here (control_letters me.log) ≡ totals_heard barrier.here agrees.handed ++ totals_heard barrier.here kept
+  both_heard =
+      rw (sym agrees.here, sym agrees.in_order)
+      (ap (map sums_of) (filter-append (is_total_to barrier.here) agrees.handed kept)
+      ∙ map-append sums_of (filter (is_total_to barrier.here) agrees.handed) (filter (is_total_to barrier.here) kept))
+
+  known_within : barrier.known ≤ rounds_known me.here me.log
+  known_within =
+      let all = length-map (filter (is_total_to me.here) (control_letters me.log)) sums_of in
+      omega (
+        arith,
+        agrees.its_rounds.known_are,
+        known_at me modest,
+        all,
+        ap length both_heard,
+        length-append (totals_heard barrier.here agrees.handed) (totals_heard barrier.here kept),
+      )
+
+  told_first : (q : ℕ) → q < barrier.known → sums_heard barrier.here agrees.handed q ≡ sums_told me.here me.log q
+  told_first q lt =
+      sym (get_or-append (totals_heard barrier.here agrees.handed) (totals_heard barrier.here kept) no_sums q (omega (arith, lt, agrees.its_rounds.known_are)))
+      ∙ ap (λ xs. get_or xs q no_sums) (sym both_heard) ∙ told_at me modest q
+
+  -- where its rank then left the next barrier, it did so at a round after the first of that barrier
+  pub left_first : (more : List Entry) (round : ℕ) → HasLeft (gained me more) barrier.left round → barrier.first < round
+  left_first more round left =
+      let heard = sums_heard barrier.here agrees.handed in
+      let now = sums_told me.here (me.log ++ more) in
+      let same : (q : ℕ) → q < barrier.known → heard q ≡ now q = λ q lt. told_first q lt ∙ sums_stay me more q (omega (arith, lt, known_within)) in
+      let first : barrier.first ≡ first_round now barrier.known = agrees.its_rounds.first_is ∙ first_round-same heard now barrier.known same in
+      let number : barrier.left ≡ ended_below now barrier.known = agrees.its_rounds.left_are ∙ ended_below-same heard now barrier.known same in
+      omega (arith, first, ends_later now barrier.known round left.ended (left.number ∙ number))

@@ -1,5 +1,5 @@
 -- The cut of a barrier that a rank left is a counted place, so its phase ends there.
-use Rattle.std.proofs.Common.{◌≡◌, ℕ, suc, pred, ◌≤◌, ◌<◌, true, false, nat_lt, lt-ltb, List, [], ◌++◌, sym, ◌∙◌, subst, le_trans, inl, inr, arith}
+use Rattle.std.proofs.Common.{◌≡◌, ℕ, suc, pred, ◌≤◌, ◌<◌, true, false, nat_lt, lt-ltb, List, [], sym, ◌∙◌, subst, le_trans, inl, inr, arith}
 use Rattle.std.proofs.lemmas.Bool.{cases_lt, false≢true}
 use Rattle.msg_codec.specs.declared.letter.Letter.{Letter}
 use Rattle.world_core.specs.declared.entry.Entry.{Entry}
@@ -11,10 +11,10 @@ use Rattle.world_core.specs.Rounds.{barrier_start}
 use Rattle.term_barrier.specs.Account.{Account, RankHandler}
 use Rattle.term_barrier.specs.CountedPlace.{AreCountedPlaces, IsCountedPlace}
 use Rattle.term_barrier.specs.Cuts.{phase_start}
-use Rattle.term_barrier.specs.Left.{HasLeft, barriers_left, gained, left_cut}
+use Rattle.term_barrier.specs.Left.{HasLeft, left_cut}
 use Rattle.term_barrier.proofs.CountedPlace.Kept.{account_next}
 use Rattle.term_barrier.proofs.Left.SameSums.{pred_within}
-use Rattle.term_barrier.proofs.Left.Since.{counted_known, left_since}
+use Rattle.term_barrier.proofs.Left.Since.{counted_known}
 
 pub counted_early : (me : Local) → is_counted me ≡ false → counts me.log ≤ barrier_start me.here me.log
 counted_early me none = elim (cases_lt (barrier_start me.here me.log) (counts me.log)) [
@@ -35,16 +35,14 @@ pub counted_left : {C : Type 0} (handler : RankHandler C) (own : ℕ → List Le
     IsCountedPlace handler own begin (left_cut me round) held me.log
 counted_left handler own begin first held me round places since put = places (pred round) since put
 
-module _ {C : Type 0} (handler : RankHandler C) (own : ℕ → ℕ → List Letter) (cut : ℕ → ℕ) (phase : ℕ) (held : List Letter)
-    (me : Local) (more : List Entry) (round : ℕ) (modest : IsModest (gained me more))
-    (left : HasLeft (gained me more) (barriers_left me) round) where
-  pub account_left : AreCountedPlaces handler (own phase) (phase_start cut phase) (barrier_start me.here me.log) held (me.log ++ more) →
-      cut phase ≡ left_cut (gained me more) round → ((to : ℕ) → own (suc phase) to ≡ []) →
-      Account handler own cut phase held (me.log ++ more) → Account handler own cut (suc phase) held (me.log ++ more)
+module _ {C : Type 0} (handler : RankHandler C) (own : ℕ → ℕ → List Letter) (cut : ℕ → ℕ) (phase first : ℕ) (held : List Letter)
+    (me : Local) (barrier round : ℕ) (modest : IsModest me) (left : HasLeft me barrier round) (since : first < round) where
+  pub account_left : AreCountedPlaces handler (own phase) (phase_start cut phase) first held me.log →
+      cut phase ≡ left_cut me round → ((to : ℕ) → own (suc phase) to ≡ []) →
+      Account handler own cut phase held me.log → Account handler own cut (suc phase) held me.log
   account_left places ends none account =
-      let since = left_since me more round left in
-      let put : round < counts (me.log ++ more) = counted_known (gained me more) modest round left.known in
-      let counted = counted_left handler (own phase) (phase_start cut phase) (barrier_start me.here me.log) held (gained me more) round places
+      let put : round < counts me.log = counted_known me modest round left.known in
+      let counted = counted_left handler (own phase) (phase_start cut phase) first held me round places
       (omega (arith, since)) (omega (arith, put, pred_within round)) in
-      account_next handler own cut phase held (me.log ++ more) account
-      (subst (λ place. IsCountedPlace handler (own phase) (phase_start cut phase) place held (me.log ++ more)) (sym ends) counted) none
+      account_next handler own cut phase held me.log account
+      (subst (λ place. IsCountedPlace handler (own phase) (phase_start cut phase) place held me.log) (sym ends) counted) none

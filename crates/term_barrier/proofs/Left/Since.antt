@@ -1,5 +1,5 @@
 -- The rounds of a barrier that a rank leaves: it counted in them since it left the barrier before.
-use Rattle.std.proofs.Common.{◌≡◌, ℕ, zero, suc, ◌≤◌, ◌<◌, ◌&&◌, Bool, true, false, cond, nat_eq, nat_lt, eqb-true, ltb-true, is_some, Option, Some, None, slice_get, take, List, [], ◌∷◌, ◌++◌, refl, le_trans, inl, inr, arith, if◌then◌else◌}
+use Rattle.std.proofs.Common.{◌≡◌, ℕ, zero, suc, ◌≤◌, ◌<◌, ◌&&◌, Bool, true, false, cond, nat_eq, nat_lt, eqb-true, ltb-true, is_some, Option, Some, None, slice_get, take, List, [], ◌∷◌, ◌++◌, refl, ◌∙◌, le_trans, inl, inr, arith, if◌then◌else◌}
 use Rattle.std.specs.List.{AllByRecursion, cons_option, list_any}
 use Rattle.std.proofs.lemmas.Bool.{cases_lt, false≢true, not-false}
 use Rattle.list_facts.specs.Prefix.{IsPrefix}
@@ -43,6 +43,19 @@ pub one_more : (sums : ℕ → Sums) (q : ℕ) → ends sums q ≡ true → ende
 unfolding ended_below
 one_more sums q e = rw e (omega arith)
 
+-- a round that ends a barrier, as many having ended before as before another round, is after the first of that round's barrier
+pub ends_later : (sums : ℕ → Sums) (known round : ℕ) → ends sums round ≡ true → ended_below sums round ≡ ended_below sums known →
+    first_round sums known < round
+ends_later sums known round ended number =
+    let within : first_round sums round < round = ltb-true _ _ (and_first (nat_lt (first_round sums round) round) _ ended) in
+    let later : known ≤ round = elim (cases_lt round known) [
+      | inl before ↦ absurd (
+          let grown = ended_grows sums (suc round) known (omega (arith, before)) in
+          omega (arith, grown, one_more sums round ended, number))
+      | inr past ↦ past
+    ] in
+    omega (arith, first_grows sums known round later, within)
+
 -- A rank that had left so many barriers, and then left the next one, did so at a round after the first of that barrier.
 pub left_since : (me : Local) (more : List Entry) (round : ℕ) →
     HasLeft (gained me more) (barriers_left me) round → barrier_start me.here me.log < round
@@ -52,16 +65,7 @@ left_since me more round left =
     let new = sums_told me.here (me.log ++ more) in
     let known = rounds_known me.here me.log in
     let same : (j : ℕ) → j < known → old j ≡ new j = sums_stay me more in
-    let ended : ended_below old known ≡ ended_below new known = ended_below-same old new known same in
-    let first : first_round old known ≡ first_round new known = first_round-same old new known same in
-    let within : first_round new round < round = ltb-true _ _ (and_first (nat_lt (first_round new round) round) _ left.ended) in
-    let later : known ≤ round = elim (cases_lt round known) [
-      | inl before ↦ absurd (
-          let grown = ended_grows new (suc round) known (omega (arith, before)) in
-          omega (arith, grown, one_more new round left.ended, left.number, ended))
-      | inr past ↦ past
-    ] in
-    omega (arith, first, first_grows new known round later, within)
+    omega (arith, first_round-same old new known same, ends_later new known round left.ended (left.number ∙ ended_below-same old new known same))
 
 -- ---- a rank takes the Total of a round after it put its own Count of that round
 

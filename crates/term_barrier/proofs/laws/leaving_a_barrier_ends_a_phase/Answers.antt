@@ -1,3 +1,4 @@
+use Rattle.term_barrier.proofs.Barriers.Rounds.{left_first}
 use Rattle.term_barrier.proofs.CountedPlace.Left.{account_left, counted_left}
 use Rattle.term_barrier.proofs.Left.Since.{counted_known, left_since}
 use Rattle.term_barrier.proofs.laws.leaving_a_barrier_ends_a_phase.Goals as goal
@@ -12,5 +13,7 @@ pub returns-clause-cut : goal.returns-clause-cut
 returns-clause-cut g c = counted_left
 
 pub returns-clause-next : goal.returns-clause-next
-returns-clause-next g c = λ handler own cut phase held me more round modest left.
-    account_left handler own cut phase held me more round modest left
+returns-clause-next g c = account_left
+
+pub returns-clause-after_first : goal.returns-clause-after_first
+returns-clause-after_first g c = λ barrier kept me more round modest agrees. left_first barrier kept me modest agrees more round
