@@ -4,3 +4,5 @@ pub mod Account
 pub mod CountedPlace
 pub mod CompleteRun
 pub mod Passed
+pub mod Left
+pub mod Served

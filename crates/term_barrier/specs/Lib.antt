@@ -4,3 +4,7 @@ pub mod CompleteRun
 pub mod Account
 pub mod CountedPlace
 pub mod Passed
+pub mod Left
+pub mod Polls
+pub mod Served
+pub mod Worked

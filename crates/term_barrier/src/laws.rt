@@ -4,19 +4,24 @@
 //!
 //! A rank has an account of its own log. It begins with one, and its turns, its own letters, its Counts and the ends of
 //! its phases keep it. Once all ranks have passed their last barrier, their accounts and quiet cuts make a complete run.
-ghost use Rattle.std.specs.Prelude.{◌≡◌, ◌+◌, ◌<◌, ◌≤◌, ℕ, suc, false, List, [], ◌∷◌, ◌++◌, drop, length, sum_by};
+//!
+//! A rank learns from the Totals that it took at which round it left a barrier. That round is the same for all ranks, and
+//! gives each the place of the barrier's quiet cut in its own log.
+ghost use Rattle.std.specs.Prelude.{◌≡◌, ◌+◌, ◌<◌, ◌≤◌, ℕ, suc, pred, false, IsTrue, List, [], ◌∷◌, ◌++◌, drop, length, take, sum_by};
 ghost use Rattle.std.specs.List.{AllByRecursion};
 ghost use Rattle.list_facts.specs.Sublist.{IsSublist};
 ghost use Rattle.msg_codec.specs.declared.letter.Letter.{Letter};
 ghost use Rattle.world_core.specs.declared.entry.Entry.{Entry};
-ghost use Rattle.world_core.specs.Counts.{before_count};
+ghost use Rattle.world_core.specs.ControlRules.{is_counted};
+ghost use Rattle.world_core.specs.Counts.{before_count, counts};
 ghost use Rattle.world_core.specs.Local.{Local};
 ghost use Rattle.world_core.specs.Log.{letters_put, letters_taken};
 ghost use Rattle.world_core.specs.Modest.{IsModest};
 ghost use Rattle.world_core.specs.Pairs.{arrived, is_data, of_pair};
 ghost use Rattle.world_core.specs.Sound.{IsSound};
-ghost use Rattle.world_core.specs.Wave.{IsQuiet};
-ghost use Rattle.world_core.specs.World.{Logs, log_of};
+ghost use Rattle.world_core.specs.Rounds.{barrier_start, rounds_known, sums_told};
+ghost use Rattle.world_core.specs.Wave.{EndsBarrier, IsComplete, IsQuiet, sums_at};
+ghost use Rattle.world_core.specs.World.{Logs, local, log_of};
 ghost use Rattle.comm_rank.specs.declared.turn.Turn.{Turn};
 ghost use Rattle.comm_rank.specs.Agrees.{Agrees};
 ghost use Rattle.comm_rank.specs.Fold.{Applies, fold_from};
@@ -24,10 +29,14 @@ ghost use Rattle.comm_rank.specs.Rank.{HasSent, IsSameRank, Rank, held_letters};
 ghost use Rattle.comm_rank.specs.Turns.{Turned};
 ghost use Rattle.term_barrier.specs.Account.{Account, IsUpToDate, RankHandler, handler_at, handler_of, with_more};
 ghost use Rattle.term_barrier.specs.CompleteRun.{IsCompleteRun, OwnLetters, earlier};
-ghost use Rattle.term_barrier.specs.CountedPlace.{IsCountedPlace, MovesNone};
+ghost use Rattle.term_barrier.specs.CountedPlace.{AreCountedPlaces, IsCountedPlace, MovesNone};
 ghost use Rattle.term_barrier.specs.Cuts.{AreQuietCuts, IsQuietCut, arrivals_of, phase_part, phase_start};
+ghost use Rattle.term_barrier.specs.Left.{HasLeft, HaveLeft, barriers_left, gained, left_cut, left_cuts};
 ghost use Rattle.term_barrier.specs.Merge.{IsMerge};
 ghost use Rattle.term_barrier.specs.Passed.{HasPassed, LevelsRise, TookPrefixes};
+ghost use Rattle.term_barrier.specs.Polls.{HasPolled};
+ghost use Rattle.term_barrier.specs.Served.{IsServed, IsSettledCut};
+ghost use Rattle.term_barrier.specs.Worked.{lone_rank};
 
 use comm_rank::Handler;
 
@@ -116,6 +125,72 @@ pub fn a_counted_place_ends_a_phase<C>()
         Account handler own cut phase held log → Account handler other other_cut phase held log }
 {}
 
+/// A poll keeps the account of its rank and each counted place, and its rank is up to date with its log again. It puts a
+/// Count with no letter held, so it puts each Count at a counted place.
+pub fn a_poll_keeps_the_account<H: Handler>()
+    ensures up_to_date { (old new : Rank H) (before after : List Entry) (turn : Turn) →
+        IsUpToDate H.apply H.start old before → IsSameRank old new → HasPolled H.apply old new before after turn →
+        IsUpToDate H.apply H.start new after }
+    ensures account { (own : ℕ → ℕ → List Letter) (cut : ℕ → ℕ) (phase : ℕ)
+        (old new : Rank H) (before after : List Entry) (turn : Turn) →
+        IsUpToDate H.apply H.start old before → IsSameRank old new → HasPolled H.apply old new before after turn →
+        Account (handler_of H.apply H.start old) own cut phase (held_letters old) before →
+        Account (handler_of H.apply H.start new) own cut phase (held_letters new) after }
+    ensures counted { (own : ℕ → List Letter) (begin place : ℕ)
+        (old new : Rank H) (before after : List Entry) (turn : Turn) →
+        IsUpToDate H.apply H.start old before → IsSameRank old new → HasPolled H.apply old new before after turn →
+        IsCountedPlace (handler_of H.apply H.start old) own begin place (held_letters old) before →
+        IsCountedPlace (handler_of H.apply H.start new) own begin place (held_letters new) after }
+    ensures new_count { (own : ℕ → ℕ → List Letter) (cut : ℕ → ℕ) (phase q : ℕ)
+        (old new : Rank H) (before after : List Entry) (turn : Turn) →
+        IsUpToDate H.apply H.start old before → IsSameRank old new → HasPolled H.apply old new before after turn →
+        Account (handler_of H.apply H.start old) own cut phase (held_letters old) before →
+        counts before ≤ q → q < counts after →
+        IsCountedPlace (handler_of H.apply H.start new) (own phase) (phase_start cut phase)
+        (length (before_count q after)) (held_letters new) after }
+{}
+
+/// Each Count that a rank puts since it left its last barrier is at a counted place. There is none where the rank is in no
+/// counted barrier. Polls keep it, and so do turns that put data letters alone.
+pub fn each_count_of_a_barrier_is_at_a_counted_place<H: Handler>()
+    ensures none { (handler : RankHandler H) (own : ℕ → List Letter) (begin : ℕ) (held : List Letter) (me : Local) →
+        is_counted me ≡ false → AreCountedPlaces handler own begin (barrier_start me.here me.log) held me.log }
+    ensures polled { (own : ℕ → ℕ → List Letter) (cut : ℕ → ℕ) (phase first : ℕ)
+        (old new : Rank H) (before after : List Entry) (turn : Turn) →
+        IsUpToDate H.apply H.start old before → IsSameRank old new → HasPolled H.apply old new before after turn →
+        Account (handler_of H.apply H.start old) own cut phase (held_letters old) before →
+        AreCountedPlaces (handler_of H.apply H.start old) (own phase) (phase_start cut phase) first (held_letters old) before →
+        AreCountedPlaces (handler_of H.apply H.start new) (own phase) (phase_start cut phase) first (held_letters new) after }
+    ensures turned { (own : ℕ → List Letter) (begin first : ℕ)
+        (old new : Rank H) (before after : List Entry) (turn : Turn) →
+        IsUpToDate H.apply H.start old before → IsSameRank old new →
+        (turned : Turned H.apply old new before after turn) →
+        AllByRecursion (λ l. IsTrue (is_data l)) (letters_put turned.placed) →
+        AreCountedPlaces (handler_of H.apply H.start old) own begin first (held_letters old) before →
+        AreCountedPlaces (handler_of H.apply H.start new) own begin first (held_letters new) after }
+    ensures later { (handler : RankHandler H) (own : ℕ → List Letter) (begin first later : ℕ) (held : List Letter)
+        (log : List Entry) → first ≤ later →
+        AreCountedPlaces handler own begin first held log → AreCountedPlaces handler own begin later held log }
+{}
+
+/// A rank that leaves a barrier counted in its last two rounds since it left the barrier before. So the cut of the barrier
+/// is a counted place, and the phase of the rank ends there.
+pub fn leaving_a_barrier_ends_a_phase<C>()
+    ensures since { (me : Local) (more : List Entry) (round : ℕ) →
+        HasLeft (gained me more) (barriers_left me) round → barrier_start me.here me.log < round }
+    ensures put { (me : Local) (barrier round : ℕ) → IsModest me → HasLeft me barrier round → round < counts me.log }
+    ensures cut { (handler : RankHandler C) (own : ℕ → List Letter) (begin first : ℕ) (held : List Letter) (me : Local)
+        (round : ℕ) → AreCountedPlaces handler own begin first held me.log → first ≤ pred round →
+        pred round < counts me.log → IsCountedPlace handler own begin (left_cut me round) held me.log }
+    ensures next { (handler : RankHandler C) (own : ℕ → ℕ → List Letter) (cut : ℕ → ℕ) (phase : ℕ)
+        (held : List Letter) (me : Local) (more : List Entry) (round : ℕ) → IsModest (gained me more) →
+        HasLeft (gained me more) (barriers_left me) round →
+        AreCountedPlaces handler (own phase) (phase_start cut phase) (barrier_start me.here me.log) held (me.log ++ more) →
+        cut phase ≡ left_cut (gained me more) round → ((to : ℕ) → own (suc phase) to ≡ []) →
+        Account handler own cut phase held (me.log ++ more) →
+        Account handler own cut (suc phase) held (me.log ++ more) }
+{}
+
 /// Worlds give what the laws below ask for. The cut at a quiet round is quiet, by the places of its Counts. In a sound
 /// world, what was taken is a prefix of what was put. What a modest log took came from ranks of the world.
 pub fn worlds_give_what_these_laws_ask()
@@ -156,4 +231,74 @@ pub fn contents_are_the_fold_of_all_phases<H: Handler>()
         arrived me.here (drop (phase_start cut phases) log) ≡ [] →
         me.contents ≡ fold_from H.apply me.here me.layout.ranks (H.start me.contents)
         (earlier (λ phase. arrived me.here (phase_part cut phase log)) phases) }
+{}
+
+/// What a rank was told of a round that it knows is so: every rank put its Count of that round, and the sums are those of
+/// the world. So the round at which a rank left a barrier ends that barrier in the world.
+pub fn what_a_rank_was_told_is_so()
+    ensures complete { (world : Logs) (rank q : ℕ) → IsSound world → q < rounds_known rank (log_of world rank) →
+        IsComplete world q }
+    ensures sums { (world : Logs) (rank q : ℕ) → IsSound world → q < rounds_known rank (log_of world rank) →
+        sums_told rank (log_of world rank) q ≡ sums_at world q }
+    ensures left { (world : Logs) (rank barrier round : ℕ) → IsSound world →
+        HasLeft (local world rank) barrier round → EndsBarrier world barrier round }
+{}
+
+/// One round ends each barrier, so all ranks that left a barrier left it at the same round. The rounds rise with the
+/// barriers, and a barrier has at least two.
+pub fn one_round_ends_each_barrier()
+    ensures one { (world : Logs) (barrier q p : ℕ) →
+        EndsBarrier world barrier q → EndsBarrier world barrier p → q ≡ p }
+    ensures same { (world : Logs) (one other barrier q p : ℕ) → IsSound world →
+        HasLeft (local world one) barrier q → HasLeft (local world other) barrier p → q ≡ p }
+    ensures rise { (world : Logs) (barrier later q p : ℕ) →
+        EndsBarrier world barrier q → EndsBarrier world later p → barrier < later → suc q < p }
+{}
+
+/// A rank that has left a barrier has left each earlier one too, and has left it for good: whatever its log gains, it left
+/// that barrier at that round, and the cut stays where it is.
+pub fn a_rank_leaves_a_barrier_for_good()
+    ensures earlier { (me : Local) (barrier round earlier : ℕ) → HasLeft me barrier round → earlier < barrier →
+        (q : ℕ) × (q < round) × HasLeft me earlier q }
+    ensures stays { (me : Local) (more : List Entry) (barrier round : ℕ) → HasLeft me barrier round →
+        HasLeft (gained me more) barrier round }
+    ensures cut_stays { (world : Logs) (rank barrier round : ℕ) (more : List Entry) → IsSound world →
+        rank < world.layout.ranks → HasLeft (local world rank) barrier round →
+        left_cut (gained (local world rank) more) round ≡ left_cut (local world rank) round }
+{}
+
+/// A barrier that ended has a quiet cut, at the round before the one that ends it. So the cuts of barriers that every rank
+/// has left are quiet, by the places that each rank knows from the rounds at which it left. These are in order, and within
+/// the logs.
+pub fn barriers_end_at_quiet_cuts()
+    ensures quiet { (world : Logs) (barrier round : ℕ) → IsSound world → EndsBarrier world barrier round →
+        (0 < round) × IsQuiet world (pred round) }
+    ensures part { (me : Local) (round : ℕ) → take (left_cut me round) me.log ≡ before_count (pred round) me.log }
+    ensures within { (me : Local) (round : ℕ) → left_cut me round ≤ length me.log }
+    ensures cuts { (world : Logs) (barriers : ℕ) (rounds : ℕ → ℕ → ℕ) → IsSound world →
+        HaveLeft world barriers rounds →
+        AreQuietCuts world.layout.ranks barriers (log_of world) (left_cuts world rounds) }
+    ensures order { (world : Logs) (barriers : ℕ) (rounds : ℕ → ℕ → ℕ) → IsSound world →
+        HaveLeft world barriers rounds → (rank barrier : ℕ) → rank < world.layout.ranks → barrier < barriers →
+        phase_start (left_cuts world rounds rank) barrier ≤ left_cuts world rounds rank barrier }
+{}
+
+/// The theorem of a barrier. Once any rank has left it, all is settled at its cut, where each log is served: the letters
+/// from a rank to a rank that were put before the cut arrived before it, and no others, and so did all offspring, which is
+/// what handlers gave by letters that arrived before the cut.
+pub fn all_is_settled_where_a_barrier_ended<C>()
+    ensures { (apply : Applies C) (start : ℕ → C) (world : Logs) (rank barrier round : ℕ) → IsSound world →
+        HasLeft (local world rank) barrier round →
+        ((one : ℕ) → one < world.layout.ranks →
+        IsServed (handler_at apply world.layout.ranks start one) (log_of world one)) →
+        IsSettledCut apply start world (pred round) }
+{}
+
+/// A worked case: a rank that is alone sent itself a letter, which ran, and then counted twice. It has left barrier 0 at
+/// round 1 and not at round 0, and the cut is after the two entries of that letter.
+#[tactic(auto, unfolding(list_facts::specs::Below::in_a_row, msg_codec::specs::Control::spelled_counts, msg_codec::specs::Control::round_of, msg_codec::specs::Control::sent_of, msg_codec::specs::Control::run_of, world_core::specs::Counts::total_taken, world_core::specs::Rounds::rounds_known, world_core::specs::Rounds::first_round, world_core::specs::Rounds::ended_below))]
+pub fn a_rank_alone_leaves_at_its_second_round()
+    ensures left { HasLeft lone_rank 0 1 }
+    ensures not_before { HasLeft lone_rank 0 0 → ⊥ }
+    ensures cut { left_cut lone_rank 1 ≡ 2 }
 {}

@@ -36,8 +36,17 @@ fn the_laws_can_be_cited() {
     control_letters_keep_the_account::<u64>();
     a_count_with_nothing_held_is_at_a_counted_place::<u64>();
     a_counted_place_ends_a_phase::<u64>();
+    a_poll_keeps_the_account::<Silent>();
+    each_count_of_a_barrier_is_at_a_counted_place::<Silent>();
+    leaving_a_barrier_ends_a_phase::<u64>();
     worlds_give_what_these_laws_ask();
     accounts_and_quiet_cuts_make_a_complete_run::<u64>();
     nothing_arrives_after_the_last_cut::<u64>();
     contents_are_the_fold_of_all_phases::<Silent>();
+    what_a_rank_was_told_is_so();
+    one_round_ends_each_barrier();
+    a_rank_leaves_a_barrier_for_good();
+    barriers_end_at_quiet_cuts();
+    all_is_settled_where_a_barrier_ended::<u64>();
+    a_rank_alone_leaves_at_its_second_round();
 }

@@ -2,9 +2,9 @@
 //! it. The laws speak of logs alone, whatever carries the letters.
 ghost use Rattle.std.specs.Prelude.{◌≡◌, ◌↔◌, ◌<◌, ◌^◌, true, ℕ, List, [], ◌∷◌, None, Some, length, slice_get};
 ghost use Rattle.std.specs.List.{AllByRecursion};
-ghost use Rattle.world_core.specs.Worked.{start, one, one_put};
+ghost use Rattle.world_core.specs.Worked.{start, one, one_put, counted_two, total_of_three, for_two, from_two};
 ghost use Rattle.world_core.specs.declared.entry.Event.TheVariants.{Put as PutEvent, Take};
-ghost use Rattle.world_core.specs.declared.why.Why.TheVariants.{NothingThere};
+ghost use Rattle.world_core.specs.declared.why.Why.TheVariants.{NothingThere, SentWhileCounted};
 ghost use Rattle.msg_codec.specs.declared.letter.Letter.{Letter};
 ghost use Rattle.ygm_route.specs.declared.scheme.Scheme.{Scheme};
 ghost use Rattle.ygm_route.specs.Layout.{IsLayout, Shape};
@@ -89,4 +89,15 @@ pub fn a_second_take_is_refused()
     ensures put { refusal start (PutEvent 0 1 (one ∷ [])) ≡ None }
     ensures first { refusal one_put (Take 1 0) ≡ None }
     ensures second { refusal (after one_put (Take 1 0)) (Take 1 0) ≡ Some NothingThere }
+{}
+
+/// A worked case of the definitions: when a rank that counted may send again. It took the Totals of two rounds that agree,
+/// and none before them is missing; or it took a letter for itself.
+#[tactic(auto, unfolding(crate::specs::Rules::first_broken, crate::specs::Counts::total_taken, crate::specs::Rounds::first_round, crate::specs::Rounds::rounds_known, crate::specs::Rounds::barrier_start, crate::specs::Pairs::sent_number, crate::specs::Pairs::run_number, list_facts::specs::Below::in_a_row, msg_codec::specs::Control::spelled_counts, msg_codec::specs::Control::round_of, msg_codec::specs::Control::sent_of, msg_codec::specs::Control::run_of, ygm_route::specs::Hop::hop))]
+pub fn a_rank_that_counted_may_send_again()
+    ensures not_yet { first_broken (counted_two []) (Puts 1 (from_two ∷ [])) ≡ Some SentWhileCounted }
+    ensures one_total { first_broken (counted_two (total_of_three 0 ∷ [])) (Puts 1 (from_two ∷ [])) ≡ Some SentWhileCounted }
+    ensures one_missing { first_broken (counted_two (total_of_three 1 ∷ total_of_three 2 ∷ [])) (Puts 1 (from_two ∷ [])) ≡ Some SentWhileCounted }
+    ensures two_totals { first_broken (counted_two (total_of_three 0 ∷ total_of_three 1 ∷ [])) (Puts 1 (from_two ∷ [])) ≡ None }
+    ensures own_letter { first_broken (counted_two (for_two ∷ [])) (Puts 1 (from_two ∷ [])) ≡ None }
 {}

@@ -1,5 +1,5 @@
 -- The first rule that a put of one control letter breaks.
-use Rattle.std.proofs.Common.{◌≡◌, ℕ, Bool, true, false, not, ◌&&◌, nat_eq, eq-eqb, Some, None, [], ◌∷◌, refl, sym, ◌∙◌, subst, if◌then◌else◌}
+use Rattle.std.proofs.Common.{◌≡◌, ℕ, Bool, true, false, not, ◌&&◌, nat_eq, eq-eqb, Some, None, [], ◌∷◌, refl, sym, ◌∙◌, if◌then◌else◌}
 use Rattle.std.proofs.lemmas.Bool.{false_from_ne_true}
 use Rattle.msg_codec.specs.Control.{IsCountFrom, IsTotalTo, control_of_letter, is_control, is_count, is_total}
 use Rattle.msg_codec.specs.declared.letter.Letter.{Letter}
@@ -26,12 +26,6 @@ total_not_count l total = false_from_ne_true (is_count l) (λ count. absurd (let
 pub wrong_table : (me : Local) (to : ℕ) (l : Letter) → wrong_control me to l ≡ true → Some WrongControl ≡ first_broken_of control_rules me (Puts to (l ∷ []))
 wrong_table me to l wrong = let first = single wrong_control me to l true wrong in sym (rw first refl)
 
-outer_fail : (a b c : Bool) → (a && c) ≡ false → not (a && b && c) ≡ true
-outer_fail true b true h = absurd cc
-outer_fail true true false h = refl
-outer_fail true false false h = refl
-outer_fail false b c h = refl
-
 inner_fails : (a b c : Bool) → b ≡ false → not (a && b && c) ≡ true
 inner_fails true b c h = rw h refl
 inner_fails false b c h = refl
@@ -41,18 +35,6 @@ wrong_count me to l count wrong = rw (count, wrong) refl
 
 wrong_total : (me : Local) (to : ℕ) (l : Letter) → is_total l ≡ true → not (nat_eq me.here 0 && nat_eq l.from 0 && nat_eq l.to to) ≡ true → wrong_control me to l ≡ true
 wrong_total me to l total wrong = rw (total_not_count l total, total, wrong) refl
-
--- a Count of another rank, or over another link
-pub count_misplaced : (me : Local) (to rank q s r : ℕ) (l : Letter) → IsCountFrom rank q s r l → (nat_eq rank me.here && nat_eq to 0) ≡ false → wrong_control me to l ≡ true
-count_misplaced me to rank q s r l is wrong =
-    let P : ℕ → Type 0 = λ x. (nat_eq x me.here && nat_eq to 0) ≡ false in
-    wrong_count me to l is.count (outer_fail (nat_eq l.from me.here) (nat_eq l.to 0) (nat_eq to 0) (subst P (sym is.from) wrong))
-
--- a Total that rank 0 doesn't put, or over another link
-pub total_misplaced : (me : Local) (to rank q s r : ℕ) (l : Letter) → IsTotalTo rank q s r l → (nat_eq me.here 0 && nat_eq rank to) ≡ false → wrong_control me to l ≡ true
-total_misplaced me to rank q s r l is wrong =
-    let P : ℕ → Type 0 = λ x. (nat_eq me.here 0 && nat_eq x to) ≡ false in
-    wrong_total me to l is.total (outer_fail (nat_eq me.here 0) (nat_eq l.from 0) (nat_eq l.to to) (subst P (sym is.to) wrong))
 
 -- a Count that isn't for rank 0, or a Total that isn't from there
 pub uncontrolled : (me : Local) (to : ℕ) (l : Letter) → control_of_letter l ≡ None → is_control l ≡ true → wrong_control me to l ≡ true

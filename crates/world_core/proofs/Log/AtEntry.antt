@@ -1,5 +1,5 @@
 -- The letters of one entry, among those of a log.
-use Rattle.std.proofs.Common.{◌≡◌, ℕ, zero, suc, ◌+◌, ◌≤◌, Bool, Some, List, [], ◌∷◌, ◌++◌, length, take, drop, slice_get, filter, flat_map, ap, ◌∙◌, subst, arith, length-append}
+use Rattle.std.proofs.Common.{◌≡◌, ℕ, zero, suc, ◌+◌, Bool, Some, List, [], ◌∷◌, ◌++◌, length, take, drop, slice_get, filter, flat_map, ap, ◌∙◌, subst}
 use Rattle.list_facts.proofs.Places.{item_right, item_still}
 use Rattle.list_facts.proofs.Steps.{split_at}
 use Rattle.std.proofs.lemmas.Grind.{flat_map-append}
@@ -14,15 +14,6 @@ module _ (p : Letter → Bool) (of : Entry → List Letter) (log : List Entry) (
       ∙ ap (filter p) (flat_map-append of (take i log) (e ∷ drop (i + 1) log))
       ∙ filter-append p (flat_map of (take i log)) (of e ++ flat_map of (drop (i + 1) log))
       ∙ ap (λ ys. filter p (flat_map of (take i log)) ++ ys) (filter-append p (of e) (flat_map of (drop (i + 1) log)))
-
-  pub entry_fits : length (filter p (flat_map of (take i log))) + length (filter p (of e)) ≤ length (filter p (flat_map of log))
-  entry_fits =
-      omega (
-        arith,
-        ap length parts,
-        length-append (filter p (flat_map of (take i log))) (filter p (of e) ++ filter p (flat_map of (drop (i + 1) log))),
-        length-append (filter p (of e)) (filter p (flat_map of (drop (i + 1) log))),
-      )
 
   pub entry_at : (m : ℕ) (x : Letter) → slice_get (filter p (of e)) m ≡ Some x →
       slice_get (filter p (flat_map of log)) (length (filter p (flat_map of (take i log))) + m) ≡ Some x

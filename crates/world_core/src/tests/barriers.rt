@@ -1,4 +1,5 @@
 //! Barriers over two nodes, while letters are forwarded and answered.
+ghost use Rattle.std.specs.Prelude.{◌<◌};
 
 use super::Run;
 use super::rounds::rounds_ended;

@@ -432,8 +432,7 @@ fn a_letter_in_transit_may_not_be_answered_late(rt: HostRuntime) -> Result<(), F
 #[test]
 fn one_rank_ends_a_barrier_with_each_second_round(rt: HostRuntime) -> Result<(), Fail> {
     let alloc = rt.alloc();
-    let layout = Layout::new(1, 1)?;
-    let mut world = World::new(alloc, layout, Scheme::Direct)?;
+    let mut steps = Vec::new(alloc);
     for q in 0..4 {
         for step in [
             count(0, q, 0, 0),
@@ -441,12 +440,11 @@ fn one_rank_ends_a_barrier_with_each_second_round(rt: HostRuntime) -> Result<(),
             total(0, q, 0, 0),
             takes(0, 0),
         ] {
-            world.step(event_of(alloc, step)?)?;
+            steps.push(step)?;
         }
     }
-    assert_eq!(rt;
-        (world.ended_count(), rounds_ended(alloc, &world)?.as_slice()),
-        (2, [1, 3].as_slice())
-    );
+    let events = events_of(alloc, &steps)?;
+    let world = replay(alloc, Layout::new(1, 1)?, Scheme::Direct, &events)?;
+    assert_eq!(rt; rounds_ended(alloc, &world)?.as_slice(), [1, 3].as_slice());
     Ok(())
 }

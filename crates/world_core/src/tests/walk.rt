@@ -1,4 +1,5 @@
 //! Random events, tried one after another, and what their logs say by a plain count.
+ghost use Rattle.std.specs.Prelude.{◌≡◌, ◌<◌, ◌≤◌};
 
 use super::rounds::rounds_ended;
 use super::{byte_of, put, take};
@@ -24,12 +25,12 @@ fn is_counted(letters: &Letters) -> bool {
 
 /// How many of these are data letters, for the rank or from it.
 fn data_letters(letters: &Letters, rank: u32, sent: bool) -> u64 {
-    let mut count = 0;
+    let mut count: u64 = 0;
     for k in 0..letters.count() {
         let l = letters.letter_at(k);
         let end = if sent { l.from } else { l.to };
         if l.tag < DATA_TAGS && end == rank {
-            count += 1;
+            count = count.saturating_add(1);
         }
     }
     count
@@ -154,7 +155,8 @@ impl Walk {
     /// A number below another, which is at least 1, as Knuth's MMIX gives it.
     fn below(&mut self, most: u32) -> u32
         requires { 1 ≤ most }
-        ensures { result < most }
+        ensures within { result < most }
+        ensures ranks { self.new.ranks ≡ self.old.ranks }
     {
         self.seed = self
             .seed

@@ -1,0 +1,186 @@
+-- A poll keeps the account of its rank and each counted place, and puts each Count at a counted place.
+use Rattle.std.proofs.Common.{◌≡◌, ℕ, ◌+◌, ◌<◌, ◌≤◌, false, List, [], ◌∷◌, ◌++◌, length, refl, sym, ap, ◌∙◌, subst, append_assoc, append-nil, inl, inr, arith}
+use Rattle.std.specs.Bool.{IsTrue}
+use Rattle.std.specs.List.{AllByRecursion}
+use Rattle.std.proofs.lemmas.Bool.{cases_lt}
+use Rattle.std.proofs.lemmas.List.{append_cancel_left}
+use Rattle.list_facts.proofs.Elements.{all_append, all_first, all_second, all_weaker}
+use Rattle.list_facts.proofs.Tests.{none_any}
+use Rattle.msg_codec.specs.Control.{is_count}
+use Rattle.msg_codec.specs.declared.letter.Letter.{Letter}
+use Rattle.world_core.specs.declared.entry.Entry.{Entry}
+use Rattle.world_core.specs.declared.entry.Entry.TheVariants.{Put, Took}
+use Rattle.world_core.specs.Counts.{before_count, counts, puts_count}
+use Rattle.world_core.specs.Log.{letters_put, letters_put_by, letters_taken}
+use Rattle.world_core.specs.Pairs.{arrived, is_data, of_pair}
+use Rattle.world_core.proofs.Counts.BeforeCount.{before_all, before_grows, before_part, before_stands, counts-append}
+use Rattle.world_core.proofs.Deeds.TwoKinds.{control_not_data, data_not_count}
+use Rattle.comm_rank.specs.declared.turn.Turn.{Turn}
+use Rattle.comm_rank.specs.Fold.{Applies, fold_from}
+use Rattle.comm_rank.specs.Rank.{IsSameRank, Rank, held_letters}
+use Rattle.comm_rank.specs.Turns.{IsTake, Turned}
+use Rattle.comm_rank.proofs.Running.TookBelow.{taken_append}
+use Rattle.term_barrier.specs.Account.{Account, IsUpToDate, RankHandler, handler_of}
+use Rattle.term_barrier.specs.CountedPlace.{AreCountedPlaces, IsCountedPlace, MovesNone}
+use Rattle.term_barrier.specs.Cuts.{phase_start}
+use Rattle.term_barrier.specs.Polls.{HasPolled, PutsControl}
+use Rattle.term_barrier.proofs.Account.Turned.{account_turn, counted_turn, up_to_date_turn}
+use Rattle.term_barrier.proofs.CountedPlace.Put.{account_unmoved, counted_put, counted_unmoved, moves_none}
+
+-- ---- puts of control letters
+
+controls_put : (controls : List Entry) → AllByRecursion PutsControl controls → AllByRecursion (λ l. is_data l ≡ false) (letters_put controls)
+controls_put [] each = tt
+controls_put (Put to letters ∷ controls) each =
+    all_append _ letters (letters_put controls) (all_weaker _ _ letters control_not_data each.0) (controls_put controls each.1)
+controls_put (Took from letters ∷ controls) each = absurd each.0
+
+controls_taken : (controls : List Entry) → AllByRecursion PutsControl controls → letters_taken controls ≡ []
+controls_taken [] each = refl
+controls_taken (Put to letters ∷ controls) each = controls_taken controls each.1
+controls_taken (Took from letters ∷ controls) each = absurd each.0
+
+-- they move no letter of a rank
+pub controls_move_none : (here : ℕ) (controls : List Entry) → AllByRecursion PutsControl controls → MovesNone here controls
+controls_move_none here controls each = moves_none here controls (controls_put controls each) (rw (controls_taken controls each) tt)
+
+-- ---- entries that put no Count
+
+no_counts : (log : List Entry) → AllByRecursion (λ l. is_count l ≡ false) (letters_put log) → counts log ≡ 0
+no_counts [] none = refl
+no_counts (entry ∷ log) none =
+    let first : puts_count entry ≡ false = none_any is_count (letters_put_by entry) (all_first _ (letters_put_by entry) (letters_put log) none) in
+    rw first (no_counts log (all_second _ (letters_put_by entry) (letters_put log) none))
+
+takes_put_none : (taken : List Entry) → AllByRecursion IsTake taken → letters_put taken ≡ []
+takes_put_none [] takes = refl
+takes_put_none (Put to letters ∷ taken) takes = absurd takes.0
+takes_put_none (Took from letters ∷ taken) takes = takes_put_none taken takes.1
+
+-- ---- a turn
+
+turn_counts : {C : Type 0} (apply : Applies C) (old new : Rank C) (before after : List Entry) (turn : Turn) (turned : Turned apply old new before after turn) →
+    AllByRecursion (λ l. IsTrue (is_data l)) (letters_put turned.placed) → counts (turned.taken ++ turned.placed) ≡ 0
+turn_counts apply old new before after turn turned data_alone =
+    let none_taken : counts turned.taken ≡ 0 = no_counts turned.taken (rw (takes_put_none turned.taken turned.gained.takes) tt) in
+    let none_placed : counts turned.placed ≡ 0 = no_counts turned.placed (all_weaker _ _ (letters_put turned.placed) data_not_count data_alone) in
+    omega (arith, counts-append turned.taken turned.placed, none_taken, none_placed)
+
+module _ {C : Type 0} (apply : Applies C) (start : C → C)
+    (keeps : (c : C) (here ranks : ℕ) (l : Letter) → start (apply c here ranks l).0 ≡ start c)
+    (old new : Rank C) (before after : List Entry) (turn : Turn)
+    (up : IsUpToDate apply start old before) (same : IsSameRank old new) (turned : Turned apply old new before after turn)
+    (data_alone : AllByRecursion (λ l. IsTrue (is_data l)) (letters_put turned.placed)) where
+  abbrev gains : List Entry
+  gains = turned.taken ++ turned.placed
+
+  log_is : after ≡ before ++ gains
+  log_is = turned.gained.log ∙ append_assoc before turned.taken turned.placed
+
+  -- it puts no Count
+  pub counts_turn : counts after ≡ counts before
+  counts_turn = omega (arith, ap counts log_is, counts-append before gains, turn_counts apply old new before after turn turned data_alone)
+
+  pub before_turn : (q : ℕ) → q < counts before → before_count q after ≡ before_count q before
+  before_turn q put = ap (before_count q) log_is ∙ before_stands q before gains put
+
+  pub places_turn : (own : ℕ → List Letter) (begin first : ℕ) → AreCountedPlaces (handler_of apply start old) own begin first (held_letters old) before →
+      AreCountedPlaces (handler_of apply start new) own begin first (held_letters new) after
+  places_turn own begin first places q since put =
+      let was : q < counts before = omega (arith, put, counts_turn) in
+      subst (λ es. IsCountedPlace (handler_of apply start new) own begin (length es) (held_letters new) after) (sym (before_turn q was))
+      (counted_turn apply start keeps old new before after turn up same turned own begin (length (before_count q before)) (places q since was))
+
+-- ---- a poll
+
+module _ {C : Type 0} (apply : Applies C) (start : C → C)
+    (keeps : (c : C) (here ranks : ℕ) (l : Letter) → start (apply c here ranks l).0 ≡ start c)
+    (old new : Rank C) (before after : List Entry) (turn : Turn)
+    (up : IsUpToDate apply start old before) (same : IsSameRank old new) (polled : HasPolled apply old new before after turn) where
+  abbrev handler : RankHandler C
+  handler = handler_of apply start new
+
+  abbrev middle : List Entry
+  middle = polled.middle
+
+  abbrev controls : List Entry
+  controls = polled.gained.controls
+
+  moves : MovesNone new.here controls
+  moves = controls_move_none new.here controls polled.gained.each
+
+  pub up_to_date_poll : IsUpToDate apply start new after
+  up_to_date_poll =
+      let turned = up_to_date_turn apply start keeps old new before middle turn up same polled.turned in
+      let arrived_is : arrived new.here after ≡ arrived new.here middle =
+      ap (arrived new.here) polled.gained.log ∙ taken_append new.here middle controls
+      ∙ ap (λ ls. arrived new.here middle ++ ls) moves.takes ∙ append-nil (arrived new.here middle) in
+      record {
+        nothing_waits = turned.nothing_waits;
+        contents = turned.contents ∙ ap (fold_from apply new.here new.layout.ranks (start new.contents)) (sym arrived_is);
+      }
+
+  account_middle : (own : ℕ → ℕ → List Letter) (cut : ℕ → ℕ) (phase : ℕ) → Account (handler_of apply start old) own cut phase (held_letters old) before →
+      Account handler own cut phase (held_letters new) middle
+  account_middle own cut phase account = account_turn apply start keeps old new before middle turn up same polled.turned own cut phase account
+
+  pub account_poll : (own : ℕ → ℕ → List Letter) (cut : ℕ → ℕ) (phase : ℕ) → Account (handler_of apply start old) own cut phase (held_letters old) before →
+      Account handler own cut phase (held_letters new) after
+  account_poll own cut phase account =
+      subst (Account handler own cut phase (held_letters new)) (sym polled.gained.log)
+      (account_unmoved handler (held_letters new) middle controls moves own cut phase (account_middle own cut phase account))
+
+  pub counted_poll : (own : ℕ → List Letter) (begin place : ℕ) → IsCountedPlace (handler_of apply start old) own begin place (held_letters old) before →
+      IsCountedPlace handler own begin place (held_letters new) after
+  counted_poll own begin place counted =
+      subst (IsCountedPlace handler own begin place (held_letters new)) (sym polled.gained.log)
+      (counted_unmoved handler (held_letters new) middle controls moves own begin place
+      (counted_turn apply start keeps old new before middle turn up same polled.turned own begin place counted))
+
+  -- ---- its Counts
+
+  middle_counts : counts middle ≡ counts before
+  middle_counts = counts_turn apply start keeps old new before middle turn up same polled.turned polled.data_alone
+
+  after_counts : counts after ≡ counts before + counts controls
+  after_counts = ap counts polled.gained.log ∙ counts-append middle controls ∙ ap (λ n. n + counts controls) middle_counts
+
+  -- the Counts of before are where they were
+  stays : (q : ℕ) → q < counts before → before_count q after ≡ before_count q before
+  stays q put =
+      ap (before_count q) polled.gained.log ∙ before_stands q middle controls (omega (arith, put, middle_counts))
+      ∙ before_turn apply start keeps old new before middle turn up same polled.turned polled.data_alone q put
+
+  -- and a new one is at a counted place
+  pub count_poll : (own : ℕ → ℕ → List Letter) (cut : ℕ → ℕ) (phase : ℕ) → Account (handler_of apply start old) own cut phase (held_letters old) before →
+      (q : ℕ) → counts before ≤ q → q < counts after →
+      IsCountedPlace handler (own phase) (phase_start cut phase) (length (before_count q after)) (held_letters new) after
+  count_poll own cut phase account q least put =
+      let held = held_letters new in
+      let whole : before_count q middle ≡ middle = before_all q middle (omega (arith, least, middle_counts)) in
+      let first = before_grows q middle controls in
+      let later = before_part q (middle ++ controls) in
+      let place : before_count q (middle ++ controls) ≡ middle ++ first.rest = sym (ap (λ es. es ++ first.rest) (sym whole) ∙ first.joined) in
+      let log_is : (middle ++ first.rest) ++ later.rest ≡ middle ++ controls = ap (λ es. es ++ later.rest) (sym place) ∙ later.joined in
+      let parts : first.rest ++ later.rest ≡ controls = append_cancel_left middle _ _ (sym (append_assoc middle first.rest later.rest) ∙ log_is) in
+      let each : AllByRecursion PutsControl (first.rest ++ later.rest) = subst (AllByRecursion PutsControl) (sym parts) polled.gained.each in
+      let none : held ≡ [] = polled.gained.none_held (omega (arith, least, put, after_counts)) in
+      let account_first : Account handler own cut phase held (middle ++ first.rest) =
+      account_unmoved handler held middle first.rest (controls_move_none new.here first.rest (all_first PutsControl first.rest later.rest each))
+      own cut phase (account_middle own cut phase account) in
+      let counted : IsCountedPlace handler (own phase) (phase_start cut phase) (length (middle ++ first.rest)) held ((middle ++ first.rest) ++ later.rest) =
+      counted_put handler held (middle ++ first.rest) later.rest (controls_move_none new.here later.rest (all_second PutsControl first.rest later.rest each))
+      own cut phase (λ to. ap (of_pair new.here to) none) account_first in
+      subst (λ log. IsCountedPlace handler (own phase) (phase_start cut phase) (length (before_count q log)) held log) (sym polled.gained.log)
+      (subst (λ es. IsCountedPlace handler (own phase) (phase_start cut phase) (length es) held (middle ++ controls)) (sym place)
+      (subst (IsCountedPlace handler (own phase) (phase_start cut phase) (length (middle ++ first.rest)) held) log_is counted))
+
+  pub places_poll : (own : ℕ → ℕ → List Letter) (cut : ℕ → ℕ) (phase first : ℕ) → Account (handler_of apply start old) own cut phase (held_letters old) before →
+      AreCountedPlaces (handler_of apply start old) (own phase) (phase_start cut phase) first (held_letters old) before →
+      AreCountedPlaces handler (own phase) (phase_start cut phase) first (held_letters new) after
+  places_poll own cut phase first account places q since put = elim (cases_lt q (counts before)) [
+    | inl earlier ↦
+        subst (λ es. IsCountedPlace handler (own phase) (phase_start cut phase) (length es) (held_letters new) after) (sym (stays q earlier))
+        (counted_poll (own phase) (phase_start cut phase) (length (before_count q before)) (places q since earlier))
+    | inr least ↦ count_poll own cut phase account q least put
+  ]
