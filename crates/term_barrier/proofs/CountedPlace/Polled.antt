@@ -46,20 +46,20 @@ controls_move_none here controls each = moves_none here controls (controls_put c
 
 -- ---- entries that put no Count
 
-no_counts : (log : List Entry) → AllByRecursion (λ l. is_count l ≡ false) (letters_put log) → counts log ≡ 0
+pub no_counts : (log : List Entry) → AllByRecursion (λ l. is_count l ≡ false) (letters_put log) → counts log ≡ 0
 no_counts [] none = refl
 no_counts (entry ∷ log) none =
     let first : puts_count entry ≡ false = none_any is_count (letters_put_by entry) (all_first _ (letters_put_by entry) (letters_put log) none) in
     rw first (no_counts log (all_second _ (letters_put_by entry) (letters_put log) none))
 
-takes_put_none : (taken : List Entry) → AllByRecursion IsTake taken → letters_put taken ≡ []
+pub takes_put_none : (taken : List Entry) → AllByRecursion IsTake taken → letters_put taken ≡ []
 takes_put_none [] takes = refl
 takes_put_none (Put to letters ∷ taken) takes = absurd takes.0
 takes_put_none (Took from letters ∷ taken) takes = takes_put_none taken takes.1
 
 -- ---- a turn
 
-turn_counts : {C : Type 0} (apply : Applies C) (old new : Rank C) (before after : List Entry) (turn : Turn) (turned : Turned apply old new before after turn) →
+pub turn_counts : {C : Type 0} (apply : Applies C) (old new : Rank C) (before after : List Entry) (turn : Turn) (turned : Turned apply old new before after turn) →
     AllByRecursion (λ l. IsTrue (is_data l)) (letters_put turned.placed) → counts (turned.taken ++ turned.placed) ≡ 0
 turn_counts apply old new before after turn turned data_alone =
     let none_taken : counts turned.taken ≡ 0 = no_counts turned.taken (rw (takes_put_none turned.taken turned.gained.takes) tt) in
