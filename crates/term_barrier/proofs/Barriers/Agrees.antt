@@ -16,7 +16,7 @@ use Rattle.world_core.specs.declared.entry.Entry.TheVariants.{Put, Took}
 use Rattle.world_core.specs.ControlRules.{is_counted}
 use Rattle.world_core.specs.Counts.{counts, totals}
 use Rattle.world_core.specs.Local.{Local, having_put, local_rank}
-use Rattle.world_core.specs.Log.{batches_put, letters_of, letters_put, letters_taken, letters_taken_by, put_to}
+use Rattle.world_core.specs.Log.{IsPut, batches_put, letters_of, letters_put, letters_taken, letters_taken_by, put_to}
 use Rattle.world_core.specs.Pairs.{is_data}
 use Rattle.world_core.specs.Rounds.{barrier_start, ended_below, first_round, rounds_known, sums_told}
 use Rattle.world_core.proofs.Counts.BeforeCount.{counts-append}
@@ -25,7 +25,7 @@ use Rattle.world_core.proofs.Log.ByLink.{each_put}
 use Rattle.comm_rank.specs.declared.turn.Turn.{Turn}
 use Rattle.comm_rank.specs.Fold.{Applies}
 use Rattle.comm_rank.specs.Rank.{IsSameRank, Rank, local_of}
-use Rattle.comm_rank.specs.Turns.{IsPut, Turned}
+use Rattle.comm_rank.specs.Turns.{Turned}
 use Rattle.term_barrier.specs.Barriers.{AreItsRounds, BarrierAgrees, BarrierState, control_letters, fresh_barrier}
 use Rattle.term_barrier.specs.Left.{gained}
 use Rattle.term_barrier.proofs.CountedPlace.Left.{counted_early}

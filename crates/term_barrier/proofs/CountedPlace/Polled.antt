@@ -11,14 +11,14 @@ use Rattle.msg_codec.specs.declared.letter.Letter.{Letter}
 use Rattle.world_core.specs.declared.entry.Entry.{Entry}
 use Rattle.world_core.specs.declared.entry.Entry.TheVariants.{Put, Took}
 use Rattle.world_core.specs.Counts.{before_count, counts, puts_count}
-use Rattle.world_core.specs.Log.{letters_put, letters_put_by, letters_taken}
+use Rattle.world_core.specs.Log.{IsTake, letters_put, letters_put_by, letters_taken}
 use Rattle.world_core.specs.Pairs.{arrived, is_data, of_pair}
 use Rattle.world_core.proofs.Counts.BeforeCount.{before_all, before_grows, before_part, before_stands, counts-append}
 use Rattle.world_core.proofs.Deeds.TwoKinds.{control_not_data, data_not_count}
 use Rattle.comm_rank.specs.declared.turn.Turn.{Turn}
 use Rattle.comm_rank.specs.Fold.{Applies, fold_from}
 use Rattle.comm_rank.specs.Rank.{IsSameRank, Rank, held_letters}
-use Rattle.comm_rank.specs.Turns.{IsTake, Turned}
+use Rattle.comm_rank.specs.Turns.{Turned}
 use Rattle.comm_rank.proofs.Running.TookBelow.{taken_append}
 use Rattle.term_barrier.specs.Account.{Account, IsUpToDate, RankHandler, handler_of}
 use Rattle.term_barrier.specs.CountedPlace.{AreCountedPlaces, IsCountedPlace, MovesNone}
