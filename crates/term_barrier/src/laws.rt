@@ -156,7 +156,7 @@ pub fn a_poll_keeps_the_account<H: Handler>()
 {}
 
 /// Each Count that a rank puts since it left its last barrier is at a counted place. There is none where the rank is in no
-/// counted barrier. Polls keep it, and so do turns that put data letters alone.
+/// counted barrier, and polls and turns keep it.
 pub fn each_count_of_a_barrier_is_at_a_counted_place<H: Handler>()
     ensures none { (handler : RankHandler H) (own : ℕ → List Letter) (begin : ℕ) (held : List Letter) (me : Local) →
         is_counted me ≡ false → AreCountedPlaces handler own begin (barrier_start me.here me.log) held me.log }
@@ -168,9 +168,7 @@ pub fn each_count_of_a_barrier_is_at_a_counted_place<H: Handler>()
         AreCountedPlaces (handler_of H.apply H.start new) (own phase) (phase_start cut phase) first (held_letters new) after }
     ensures turned { (own : ℕ → List Letter) (begin first : ℕ)
         (old new : Rank H) (before after : List Entry) (turn : Turn) →
-        IsUpToDate H.apply H.start old before → IsSameRank old new →
-        (turned : Turned H.apply old new before after turn) →
-        AllByRecursion (λ l. IsTrue (is_data l)) (letters_put turned.placed) →
+        IsUpToDate H.apply H.start old before → IsSameRank old new → Turned H.apply old new before after turn →
         AreCountedPlaces (handler_of H.apply H.start old) own begin first (held_letters old) before →
         AreCountedPlaces (handler_of H.apply H.start new) own begin first (held_letters new) after }
     ensures later { (handler : RankHandler H) (own : ℕ → List Letter) (begin first later : ℕ) (held : List Letter)
@@ -295,7 +293,7 @@ pub fn a_new_barrier_agrees_with_the_empty_log()
 {}
 
 /// A barrier stays in agreement with its log as the log gains entries that put neither Counts nor Totals: of a put of data
-/// letters, and of a turn that puts data letters alone. The control letters that the rank takes then are kept. It stays so
+/// letters, and of a turn. The control letters that the rank takes then are kept. It stays so
 /// too as letters that were kept are handed over, where its rounds are those of all letters handed to it.
 pub fn a_barrier_stays_in_agreement<C>()
     ensures gained { (barrier : BarrierState) (kept : List Letter) (me : Local) (more : List Entry) →
@@ -306,7 +304,7 @@ pub fn a_barrier_stays_in_agreement<C>()
         BarrierAgrees barrier kept (having_put me to letters) }
     ensures turned { (apply : Applies C) (old new : Rank C) (before after : List Entry) (turn : Turn)
         (barrier : BarrierState) (kept : List Letter) (turned : Turned apply old new before after turn) →
-        AllByRecursion (λ l. IsTrue (is_data l)) (letters_put turned.placed) → IsSameRank old new →
+        IsSameRank old new →
         BarrierAgrees barrier kept (local_of old before) →
         BarrierAgrees barrier (kept ++ control_letters turned.taken) (local_of new after) }
     ensures handed { (old new : BarrierState) (letters kept : List Letter) (me : Local)

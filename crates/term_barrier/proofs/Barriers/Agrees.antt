@@ -132,19 +132,19 @@ agrees_put barrier kept me to letters data_alone agrees =
     (λ rank. none_put rank more (all_weaker _ _ (letters_put more) data_not_total all)) agrees)
 
 pub agrees_turned : {C : Type 0} (apply : Applies C) (old new : Rank C) (before after : List Entry) (turn : Turn) (barrier : BarrierState) (kept : List Letter)
-    (turned : Turned apply old new before after turn) → AllByRecursion (λ l. IsTrue (is_data l)) (letters_put turned.placed) → IsSameRank old new →
+    (turned : Turned apply old new before after turn) → IsSameRank old new →
     BarrierAgrees barrier kept (local_of old before) → BarrierAgrees barrier (kept ++ control_letters turned.taken) (local_of new after)
-agrees_turned {C} apply old new before after turn barrier kept turned data_alone same agrees =
+agrees_turned {C} apply old new before after turn barrier kept turned same agrees =
     let taken = turned.taken in
     let placed = turned.placed in
     let log_is : before ++ (taken ++ placed) ≡ after = sym (turned.gained.log ∙ append_assoc before taken placed) in
     let no_totals : (to : ℕ) → totals to (taken ++ placed) ≡ 0 = λ to.
     let none_taken : totals to taken ≡ 0 = none_put to taken (rw (takes_put_none taken turned.gained.takes) tt) in
-    let none_placed : totals to placed ≡ 0 = none_put to placed (all_weaker _ _ (letters_put placed) data_not_total data_alone) in
+    let none_placed : totals to placed ≡ 0 = none_put to placed (all_weaker _ _ (letters_put placed) data_not_total turned.gained.data_alone) in
     omega (arith, totals-append to taken placed, none_taken, none_placed) in
     let controls : control_letters (taken ++ placed) ≡ control_letters taken =
     controls-append taken placed ∙ ap (λ ls. control_letters taken ++ ls) (puts_taken placed turned.gained.puts) ∙ append-nil (control_letters taken) in
-    let grown = agrees_gained barrier kept (local_of old before) (taken ++ placed) (turn_counts apply old new before after turn turned data_alone) no_totals agrees in
+    let grown = agrees_gained barrier kept (local_of old before) (taken ++ placed) (turn_counts apply old new before after turn turned) no_totals agrees in
     let same_rank : local_of old after ≡ local_of new after = rw (same.layout, same.scheme, same.here) refl in
     subst (BarrierAgrees barrier (kept ++ control_letters taken)) same_rank
     (subst (λ log. BarrierAgrees barrier (kept ++ control_letters taken) (local_of old log)) log_is
