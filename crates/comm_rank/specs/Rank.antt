@@ -11,7 +11,8 @@ use Rattle.comm_rank.specs.Fold.{Applies, fold_from, handed_from}
 use Rattle.comm_rank.specs.Held.{Gains}
 
 -- Its place in its world, how many letters it may send, what its handler keeps, its counts, the letters that it holds by
--- the rank that they go to next, the letters that it took and that still wait, and whether it is stopped.
+-- the rank that they go to next, the letters that it took and that still wait, the control letters that it took and that
+-- weren't handed over yet, and whether it is stopped.
 pub record Rank (C : Type 0) : Type 0 where
   pub layout : Shape
   pub scheme : Scheme
@@ -22,6 +23,7 @@ pub record Rank (C : Type 0) : Type 0 where
   pub run_count : ℕ
   pub held : List (List Letter)
   pub waiting : List Letter
+  pub controls : List Letter
   pub stopped : Bool
 
 -- a rank that has sent and run nothing
@@ -36,6 +38,7 @@ fresh_rank layout scheme here most contents = record {
   run_count = 0;
   held = replicate layout.ranks [];
   waiting = [];
+  controls = [];
   stopped = false;
 }
 
@@ -66,6 +69,10 @@ folded apply me letters = fold_from apply me.here me.layout.ranks me.contents le
 abbrev pub handed : {C : Type 0} → Applies C → Rank C → List Letter → List Letter
 handed apply me letters = handed_from apply me.here me.layout.ranks me.contents letters
 
+-- it holds no letter, and none waits to run
+abbrev pub IsIdle : {C : Type 0} → Rank C → Type 0
+IsIdle me = (held_letters me ≡ []) × (me.waiting ≡ [])
+
 -- ---- what calls do to a rank
 
 -- the rank, stopped and otherwise unchanged
@@ -79,9 +86,13 @@ pub record HasSent {C : Type 0} (old new : Rank C) (l : Letter) : Type 0 where
   pub sent : (log : List Entry) (to : ℕ) → sent_to new log to ≡ sent_to old log to ++ of_pair old.here to (l ∷ [])
   pub rank : new ≡ record old { sent_count = old.sent_count + 1; held = new.held }
 
--- Letters ran at the rank, or were put into its links: of the rank, only these fields changed.
+-- Letters ran at the rank: of the rank, only these fields changed.
+abbrev pub OnlyRan : {C : Type 0} → Rank C → Rank C → Type 0
+OnlyRan old new = new ≡ record old { contents = new.contents; sent_count = new.sent_count; run_count = new.run_count; held = new.held; waiting = new.waiting }
+
+-- It took batches, their letters ran or wait to be handed over, or letters were put into its links: only these did.
 abbrev pub Worked : {C : Type 0} → Rank C → Rank C → Type 0
-Worked old new = new ≡ record old { contents = new.contents; sent_count = new.sent_count; run_count = new.run_count; held = new.held; waiting = new.waiting }
+Worked old new = new ≡ record old { contents = new.contents; sent_count = new.sent_count; run_count = new.run_count; held = new.held; waiting = new.waiting; controls = new.controls }
 
 -- the same rank of the same world
 pub record IsSameRank {C : Type 0} (old new : Rank C) : Type 0 where

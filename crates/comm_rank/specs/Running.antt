@@ -1,6 +1,7 @@
 -- What a rank does with the letters that it took. Only private functions cite this.
-use Rattle.std.specs.Prelude.{◌≡◌, ◌≢◌, ℕ, ◌+◌, ◌<◌, ◌≤◌, Bool, false, not, IsTrue, List, [], ◌∷◌, ◌++◌, length, if◌then◌else◌}
-use Rattle.std.specs.List.{AllByRecursion, AllPairs}
+use Rattle.std.specs.Prelude.{◌≡◌, ◌≢◌, ℕ, ◌+◌, ◌<◌, ◌≤◌, Bool, false, not, is_some, IsTrue, List, [], ◌∷◌, ◌++◌, length, if◌then◌else◌}
+use Rattle.std.specs.List.{AllByRecursion, AllPairs, filter}
+use Rattle.msg_codec.specs.Control.{control_of_letter, is_control}
 use Rattle.msg_codec.specs.declared.letter.Letter.{Letter}
 use Rattle.world_core.specs.declared.entry.Entry.{Entry}
 use Rattle.world_core.specs.Log.{IsTake, batches_taken, letters_taken}
@@ -33,6 +34,12 @@ begins_with_control (l ∷ letters) = not (is_data l)
 -- The letters of a batch for handlers: all of them, or none where it begins with a control letter, which is alone in it.
 abbrev pub for_handlers : List Letter → List Letter
 for_handlers batch = if begins_with_control batch then [] else batch
+
+-- a batch that is one control letter
+pub record IsControl (batch : List Letter) : Type 0 where
+  pub letter : Letter
+  pub alone : batch ≡ letter ∷ []
+  pub read : IsTrue (is_some (control_of_letter letter))
 
 -- ---- letters that ran
 
@@ -91,12 +98,13 @@ pub record GainedTakes (before after taken : List Entry) : Type 0 where
   pub takes : AllByRecursion IsTake taken
   pub in_order : AllPairs (λ one later. other_end one < other_end later) taken
 
--- A rank took batches, and all their letters for it ran.
+-- A rank took batches, all their letters for it ran, and the control letters wait to be handed over.
 pub record TookAll {C : Type 0} (apply : Applies C) (old new : Rank C) (before after : List Entry) (took : ℕ) : Type 0 where
   pub taken : List Entry
   pub gained : GainedTakes before after taken
   pub advanced : Advanced apply old new before after (for_rank old.here (letters_taken taken))
   pub nothing_waits : new.waiting ≡ []
+  pub controls : new.controls ≡ old.controls ++ filter is_control (letters_taken taken)
   pub took_count : took ≡ length taken
 
 -- the same of ranks below this one alone

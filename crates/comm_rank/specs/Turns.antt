@@ -1,6 +1,7 @@
 -- What a turn of a rank does.
 use Rattle.std.specs.Prelude.{◌≡◌, ◌⊎◌, ◌≢◌, ℕ, ◌+◌, ◌-◌, ◌^◌, ◌<◌, true, IsTrue, List, [], ◌∷◌, ◌++◌, Option, Some, None, length, min, slice_get, take}
-use Rattle.std.specs.List.{AllByRecursion, AllPairs}
+use Rattle.std.specs.List.{AllByRecursion, AllPairs, filter}
+use Rattle.msg_codec.specs.Control.{is_control}
 use Rattle.msg_codec.specs.declared.letter.Letter.{Letter}
 use Rattle.world_core.specs.declared.entry.Entry.{Entry}
 use Rattle.world_core.specs.declared.entry.Entry.TheVariants.{Put, Took}
@@ -43,13 +44,15 @@ pub record Advanced {C : Type 0} (apply : Applies C) (old new : Rank C) (before 
   pub run_count : new.run_count ≡ old.run_count + length run
   pub sent_count : new.sent_count ≡ old.sent_count + length (handed apply old run)
 
--- A turn that ended: all letters for the rank in the batches that it took ran.
+-- A turn that ended: all letters for the rank in the batches that it took ran, and the control letters wait to be handed
+-- over.
 pub record Turned {C : Type 0} (apply : Applies C) (old new : Rank C) (before after : List Entry) (turn : Turn) : Type 0 where
   pub taken : List Entry
   pub placed : List Entry
   pub gained : Gained before after taken placed
   pub advanced : Advanced apply old new before after (for_rank old.here (letters_taken taken))
   pub nothing_waits : new.waiting ≡ []
+  pub controls : new.controls ≡ old.controls ++ filter is_control (letters_taken taken)
   pub took : turn.took ≡ length taken
   pub put : turn.put ≡ min (length placed) (2 ^ 64 - 1)
 
@@ -62,6 +65,7 @@ HasBegun apply here ranks before after waiting given =
     × (k < length (given_by apply here ranks before l)) × (given ≡ take k (given_by apply here ranks before l)))
 
 -- A turn that was cut off: of the letters for the rank in the batches that it took, the first ran, and the others wait.
+-- The control letters wait to be handed over.
 pub record CutOff {C : Type 0} (apply : Applies C) (old new : Rank C) (before after : List Entry) : Type 0 where
   pub taken : List Entry
   pub placed : List Entry
@@ -70,6 +74,7 @@ pub record CutOff {C : Type 0} (apply : Applies C) (old new : Rank C) (before af
   pub gained : Gained before after taken placed
   pub arrived : for_rank old.here (letters_taken taken) ≡ run ++ for_rank old.here new.waiting
   pub ran : ran_at new after ≡ ran_at old before ++ run
+  pub controls : new.controls ≡ old.controls ++ filter is_control (letters_taken taken)
   pub begun : HasBegun apply old.here old.layout.ranks (folded apply old run) new.contents new.waiting given
   pub sent : (to : ℕ) → sent_to new after to ≡ sent_to old before to ++ of_pair old.here to (handed apply old run ++ given)
   pub run_count : new.run_count ≡ old.run_count + length run

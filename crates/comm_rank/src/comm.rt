@@ -1,31 +1,34 @@
 //! One rank of a world.
-ghost use Rattle.std.specs.Prelude.{◌≡◌, ◌<◌, ◌≤◌, ◌+◌, ℕ, List, [], ◌∷◌, false, length, Err, IfOk, IfErr, OnOk, OnErr};
+ghost use Rattle.std.specs.Prelude.{◌≡◌, ◌<◌, ◌≤◌, ◌+◌, ℕ, List, [], ◌∷◌, false, true, length, Err, IfOk, IfErr, OnOk, OnErr, IfSome, IsNone, IsTrue};
+ghost use Rattle.msg_codec.specs.Control.{letter_of_control};
 ghost use Rattle.msg_codec.specs.Letter.{letter_of};
 ghost use Rattle.world_core.specs.declared.entry.Entry.{Entry};
 ghost use Rattle.list_facts.specs.Sums.{sum_upto};
 ghost use Rattle.world_core.specs.Limits.{data_tags, most_letters};
 ghost use Rattle.world_core.specs.Log.{letters_of};
+ghost use Rattle.world_core.specs.Post.{RaiseKeeps, StopRaised};
 ghost use Rattle.world_core.specs.Rules.{IsHonest};
 ghost use Rattle.ygm_route.specs.declared.scheme.Scheme.TheVariants.{Direct};
 ghost use Rattle.comm_rank.specs.Agrees.{Agrees};
 ghost use Rattle.comm_rank.specs.Fault.{IsFullAt, NeverStopped};
 ghost use Rattle.comm_rank.specs.declared.fault.CommFault.TheVariants.{CountFull};
 ghost use Rattle.comm_rank.specs.Held.{Gains};
-ghost use Rattle.comm_rank.specs.Rank.{HasSent, fresh_rank, local_of, sent_to};
+ghost use Rattle.comm_rank.specs.Rank.{HasSent, IsIdle, fresh_rank, halted, local_of, sent_to};
 ghost use Rattle.comm_rank.specs.Store.{AreApart, IsHeldFor};
 
 use crate::held::Held;
 use crate::waiting::Waiting;
 use crate::{CommFault, Handler, Outgoing};
-use msg_codec::{Body, Counter, LetterRef};
+use msg_codec::{Body, Control, Counter, LetterRef};
 use std::alloc::Global;
+use std::collections::VecDeque;
 use std::marker::Model;
-use world_core::Limits;
+use world_core::{Limits, Post};
 use ygm_route::{Layout, Scheme};
 
 /// One rank of a world: its handler, and the letters that it holds until its links take them. It reaches the links
-/// through a post, which is passed to each turn. It sends data letters alone, and control letters that it takes reach
-/// no handler. After a turn that failed it is stopped for good.
+/// through a post, which is passed to each turn. A turn puts data letters alone. Control letters that it takes reach no
+/// handler: they wait until `next_control` hands them over. After a turn that failed it is stopped for good.
 #[derive(Drop)]
 pub struct Comm<H> {
     pub(crate) alloc: Global,
@@ -37,19 +40,21 @@ pub struct Comm<H> {
     pub(crate) ran: u64,
     pub(crate) held: Held,
     pub(crate) waiting: Waiting,
+    pub(crate) controls: VecDeque<Control>,
     pub(crate) out: Outgoing,
     pub(crate) handler: H,
     pub(crate) stopped: bool,
 }
 
 impl<H> Model for Comm<H> {
-    ghost use Rattle.std.specs.Prelude.{◌≡◌, ◌<◌, [], length};
+    ghost use Rattle.std.specs.Prelude.{◌≡◌, ◌<◌, [], length, map};
+    ghost use Rattle.msg_codec.specs.Control.{letter_of_control};
     ghost use Rattle.ygm_route.specs.declared.scheme.Scheme.TheVariants.{Direct};
     ghost use Rattle.comm_rank.specs.Rank.{Rank};
 
     ghost Value = { Rank H };
 
-    ghost view = { λ comm. record { layout = comm.layout; scheme = comm.scheme; here = comm.here; most = comm.limits.letters; contents = comm.handler; sent_count = comm.sent.count; run_count = comm.ran; held = comm.held.lists; waiting = comm.waiting; stopped = comm.stopped } };
+    ghost view = { λ comm. record { layout = comm.layout; scheme = comm.scheme; here = comm.here; most = comm.limits.letters; contents = comm.handler; sent_count = comm.sent.count; run_count = comm.ran; held = comm.held.lists; waiting = comm.waiting; controls = map letter_of_control comm.controls.items; stopped = comm.stopped } };
 
     ghost invariant = { λ comm. (comm.here < comm.layout.ranks) × (comm.scheme ≡ Direct) × (comm.sent.limit ≡ comm.limits.letters)
         × (comm.out.ranks ≡ comm.layout.ranks) × (comm.out.letters ≡ []) × (length comm.held.lists ≡ comm.layout.ranks) };
@@ -124,6 +129,7 @@ impl<H: Handler> Comm<H> {
             ran: 0,
             held,
             waiting: Waiting::none(alloc),
+            controls: VecDeque::new(alloc),
             out: Outgoing::new(alloc, layout.ranks()),
             handler,
             stopped: false,
@@ -189,6 +195,34 @@ impl<H: Handler> Comm<H> {
         self.ran
     }
 
+    /// The control letter that it took first of those that weren't handed over yet. Without one, it changes nothing.
+    pub fn next_control(&mut self) -> Option<Control>
+        ensures some { IfSome result (λ control. self.old ≡ record self.new { controls = letter_of_control control ∷ self.new.controls }) }
+        ensures none { IsNone result → (self.old.controls ≡ []) × (self.new ≡ self.old) }
+    {
+        self.controls.pop_front()
+    }
+
+    /// Whether it has nothing to do for now: it holds no letter, and none waits to run.
+    pub fn is_idle(&self) -> bool
+        ensures idle { result ≡ true → IsIdle self.now }
+        ensures busy { IsIdle self.now → result ≡ true }
+    {
+        self.held.is_empty() && self.waiting.count() == 0
+    }
+
+    /// Raises the stop, so that each rank fails with `Stopped` at its next turn. This rank is stopped at once.
+    pub fn halt<P: Post>(&mut self, post: &mut P)
+        requires serves { IsTrue ((P.state post.old).serves self.old.here) }
+        ensures stopped { self.new ≡ halted self.old }
+        ensures raised { StopRaised self.old.here (P.state post.old) (P.state post.new) }
+        ensures keeps { RaiseKeeps self.old.here (P.state post.old) (P.state post.new) }
+        ensures logs { (rank : ℕ) → (P.state post.new).log rank ≡ (P.state post.old).log rank }
+    {
+        post.raise_stop(self.here);
+        self.stopped = true;
+    }
+
     /// What its handler keeps.
     pub fn contents(&self) -> &H
         ensures { result.now ≡ self.now.contents }
@@ -196,7 +230,7 @@ impl<H: Handler> Comm<H> {
         &self.handler
     }
 
-    /// Whether a turn failed. A stopped rank takes no turn and sends nothing.
+    /// Whether a turn failed, or `halt` was called. A stopped rank takes no turn and sends nothing.
     pub fn is_stopped(&self) -> bool
         ensures { result ≡ self.now.stopped }
     {

@@ -1,5 +1,5 @@
 //! The letters that a rank holds until its links take them.
-ghost use Rattle.std.specs.Prelude.{◌≡◌, ◌<◌, ◌≤◌, ◌++◌, ℕ, [], ◌∷◌, drop, length, replicate, slice_index_or, slice_set, IfOk, OnOk, OnErr, IfSome, OnSome, IsNone, MatchOption};
+ghost use Rattle.std.specs.Prelude.{◌≡◌, ◌<◌, ◌≤◌, ◌++◌, ℕ, true, [], ◌∷◌, drop, length, replicate, slice_index_or, slice_set, IfOk, OnOk, OnErr, IfSome, OnSome, IsNone, MatchOption};
 ghost use Rattle.msg_codec.specs.Letter.{letter_of};
 ghost use Rattle.msg_codec.specs.declared.letter.Letter.{Letter};
 ghost use Rattle.world_core.specs.Log.{letters_of};
@@ -127,6 +127,19 @@ impl Held {
         ensures apart { AreApart self.now.lists to }
     {
         self.queues[to as usize].count()
+    }
+
+    /// Whether no letter is held.
+    pub(crate) fn is_empty(&self) -> bool
+        ensures empty { result ≡ true → letters_of self.now.lists ≡ [] }
+        ensures some { letters_of self.now.lists ≡ [] → result ≡ true }
+    {
+        for queue in 0..self.queues.len() {
+            if self.queues[queue].count() > 0 {
+                return false;
+            }
+        }
+        true
     }
 
     /// Removes and returns the oldest batch for a destination.

@@ -1,6 +1,7 @@
 //! A rank's turn: it runs what came, and puts what it holds into its links.
-ghost use Rattle.std.specs.Prelude.{◌≡◌, ◌<◌, ◌≤◌, ◌+◌, [], ℕ, List, Err, true, false, is_err, length, map, take, IsTrue, IfOk, IfErr, OnOk, OnErr};
+ghost use Rattle.std.specs.Prelude.{◌≡◌, ◌<◌, ◌≤◌, ◌+◌, [], ◌∷◌, ℕ, List, Err, true, false, is_err, length, map, take, IsTrue, IfOk, IfErr, OnOk, OnErr};
 ghost use Rattle.std.specs.List.{AllByRecursion};
+ghost use Rattle.msg_codec.specs.Control.{letter_of_control};
 ghost use Rattle.world_core.specs.Limits.{most_arrived};
 ghost use Rattle.world_core.specs.Log.{letters_of};
 ghost use Rattle.comm_rank.specs.Agrees.{Belongs, MayTurn};
@@ -8,15 +9,15 @@ ghost use Rattle.comm_rank.specs.Fault.{IfCountFull, IfStopped, IsFullAt, NeverS
 ghost use Rattle.comm_rank.specs.declared.fault.CommFault.TheVariants.{Stopped};
 ghost use Rattle.comm_rank.specs.Fold.{letter_by};
 ghost use Rattle.comm_rank.specs.Held.{Gains};
-ghost use Rattle.comm_rank.specs.Rank.{Worked};
-ghost use Rattle.comm_rank.specs.Running.{HasTakenAll, HasTakenFrom, IsFor, RanFirst, RanWaiting, StuckFirst, StuckIn, TakesKeep, WasCutFrom, WorkKeeps, begins_with_control};
+ghost use Rattle.comm_rank.specs.Rank.{OnlyRan, Worked};
+ghost use Rattle.comm_rank.specs.Running.{HasTakenAll, HasTakenFrom, IsControl, IsFor, RanFirst, RanWaiting, StuckFirst, StuckIn, TakesKeep, WasCutFrom, WorkKeeps, begins_with_control};
 ghost use Rattle.comm_rank.specs.Turns.{HasEnded, HasFailed, HasHalted, KeepsPost, WasCut};
 
 use crate::comm::hold;
 use crate::held::Held;
 use crate::waiting::Waiting;
 use crate::{Comm, CommFault, Handler, Outgoing};
-use msg_codec::{Batch, Counter};
+use msg_codec::{Batch, Control, Counter, control_of};
 use world_core::{DATA_TAGS, Post};
 
 /// What a turn did: how many batches it took, how many it put, and the lowest rank to which the link was full.
@@ -54,6 +55,17 @@ fn send_out(
     Ok(())
 }
 
+/// The control in a batch that is one control letter.
+fn control_in(batch: &Batch) -> Control
+    requires control { IsControl batch.now }
+    ensures { batch.now ≡ letter_of_control result ∷ [] }
+{
+    let Some(control) = control_of(batch.letter_at(0)) else {
+        unreachable!();
+    };
+    control
+}
+
 /// Whether a batch begins with a control letter, which is alone in it where the batch broke no rule.
 fn begins_with_control(batch: &Batch) -> bool
     ensures { result ≡ begins_with_control batch.now }
@@ -63,8 +75,9 @@ fn begins_with_control(batch: &Batch) -> bool
 
 impl<H: Handler> Comm<H> {
     /// A turn. It looks whether the stop is raised. Then it takes at most one batch from each link, in the order of
-    /// ranks, and runs the letters for this rank in order; a control letter is for no handler, and isn't run. Then it
-    /// puts what the rank holds, destination by destination, until nothing remains or the link is full.
+    /// ranks, and runs the letters for this rank in order; a control letter is for no handler, and waits for
+    /// `next_control`. Then it puts what the rank holds, destination by destination, until nothing remains or the link
+    /// is full.
     ///
     /// Where a rank has raised the stop, it returns `Stopped` and does nothing. Where a letter can't run or be put,
     /// for lack of memory or because the handler gave a letter too many, this rank raises the stop, and the letters
@@ -106,8 +119,8 @@ impl<H: Handler> Comm<H> {
         Ok(Turn { took, put, full })
     }
 
-    /// Takes a batch from each link that isn't empty, and runs its letters, unless it is a control letter. It returns
-    /// how many it took.
+    /// Takes a batch from each link that isn't empty, and runs its letters, or keeps its control letter. It returns how
+    /// many it took.
     fn take_all<P: Post>(&mut self, post: &mut P) -> Result<u32, CommFault>
         requires belongs { Belongs H.apply H.start self.old (P.state post.old) }
         requires may_turn { MayTurn self.old ((P.state post.old).log self.old.here) }
@@ -123,8 +136,8 @@ impl<H: Handler> Comm<H> {
         Ok(took)
     }
 
-    /// Takes a batch from the link of one rank, if it isn't empty, and runs its letters, unless it is a control letter.
-    /// It returns how many it took.
+    /// Takes a batch from the link of one rank, if it isn't empty, and runs its letters, or keeps its control letter. It
+    /// returns how many it took.
     fn take_from<P: Post>(&mut self, post: &mut P, from: u32) -> Result<u32, CommFault>
         requires belongs { Belongs H.apply H.start self.old (P.state post.old) }
         requires may_turn { MayTurn self.old ((P.state post.old).log self.old.here) }
@@ -134,10 +147,13 @@ impl<H: Handler> Comm<H> {
         ensures rank { Worked self.old self.new }
         ensures keeps { TakesKeep self.old (P.state post.old) (P.state post.new) }
     {
+        // A control letter that comes can be kept.
+        self.controls.reserve(1)?;
         let Some(batch) = post.take(self.here, from) else {
             return Ok(0);
         };
         if begins_with_control(&batch) {
+            self.controls.push_back_reserved(control_in(&batch));
             return Ok(1);
         }
         self.waiting = Waiting::of(batch);
@@ -151,7 +167,7 @@ impl<H: Handler> Comm<H> {
         requires few { self.old.run_count + length self.old.waiting ≤ most_arrived }
         ensures ran { OnOk result (RanWaiting H.apply self.old self.new) }
         ensures stuck { IfErr result (StuckIn H.apply self.old self.new self.old.waiting) }
-        ensures rank { Worked self.old self.new }
+        ensures rank { OnlyRan self.old self.new }
     {
         for _ in 0..self.waiting.count() {
             self.run_first()?;
@@ -167,7 +183,7 @@ impl<H: Handler> Comm<H> {
         requires few { self.old.run_count < most_arrived }
         ensures ran { OnOk result (RanFirst H.apply self.old self.new) }
         ensures stuck { IfErr result (StuckFirst H.apply self.old self.new) }
-        ensures rank { Worked self.old self.new }
+        ensures rank { OnlyRan self.old self.new }
     {
         let letter = self.waiting.first();
         if letter.to != self.here {

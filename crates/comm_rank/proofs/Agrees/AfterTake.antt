@@ -1,7 +1,8 @@
 -- A rank takes a batch, and runs its letters.
-use Rattle.std.proofs.Common.{◌≡◌, ◌≢◌, ℕ, ◌+◌, ◌<◌, ◌≤◌, true, false, nat_eq, eq-eqb, ne_eqb, List, [], ◌∷◌, ◌++◌, length, drop, refl, sym, ap, ◌∙◌, subst, inl, inr, arith, append-nil, append_assoc, length-append}
+use Rattle.std.proofs.Common.{◌≡◌, ◌≢◌, ℕ, ◌+◌, ◌<◌, ◌≤◌, true, false, nat_eq, eq-eqb, ne_eqb, List, [], ◌∷◌, ◌++◌, length, drop, refl, sym, ap, ◌∙◌, subst, inl, inr, arith, append-nil, append_assoc, length-append, if◌then◌else◌}
 use Rattle.std.specs.Bool.{IsTrue}
-use Rattle.std.specs.List.{AllByRecursion}
+use Rattle.std.specs.List.{AllByRecursion, filter}
+use Rattle.msg_codec.specs.Control.{is_control}
 use Rattle.std.proofs.lemmas.Bool.{cases_eq}
 use Rattle.std.proofs.lemmas.List.{nil_from_length}
 use Rattle.std.proofs.lemmas.List.Elements.{filter-append}
@@ -30,10 +31,11 @@ use Rattle.comm_rank.specs.Fold.{Applies, fold_from, handed_from}
 use Rattle.comm_rank.specs.Held.{Gains}
 use Rattle.comm_rank.specs.Rank.{Rank, IsSameRank, handed, held_letters, local_of, ran_at, sent_to}
 use Rattle.comm_rank.specs.declared.fault.CommFault.{CommFault}
-use Rattle.comm_rank.specs.Running.{CutFrom, HasRunAll, IsFor, NotLookedAt, StuckIn, TookFrom, WasCutFrom, for_handlers}
+use Rattle.comm_rank.specs.declared.fault.CommFault.TheVariants.{NoMemory}
+use Rattle.comm_rank.specs.Running.{CutFrom, HasRunAll, IsControl, IsFor, NotLookedAt, StuckIn, TookFrom, WasCutFrom, begins_with_control, for_handlers}
 use Rattle.comm_rank.specs.Turns.{Advanced, LookedAt}
 use Rattle.list_facts.proofs.Sublist.{sublist_append}
-use Rattle.comm_rank.proofs.Agrees.Arrived.{Brings, arrived-took, brings, for_all, forward_same, none_of_others, own_all, ran_all, ran_is}
+use Rattle.comm_rank.proofs.Agrees.Arrived.{Brings, arrived-took, brings, for_all, forward_same, is_read, its_controls, none_of_others, own_all, ran_all, ran_is}
 use Rattle.comm_rank.proofs.Fold.Appended.{fold-append, handed-append, start_fold}
 use Rattle.comm_rank.proofs.Running.RunAll.{rest_for}
 use Rattle.comm_rank.proofs.Turns.Faults.{if_full}
@@ -92,7 +94,7 @@ taken_other from other batch log after is ne =
 -- ---- the rank afterwards
 
 module _ {C : Type 0} (apply : Applies C) (old new : Rank C) (log after : List Entry) (from : ℕ) (batch run : List Letter) (same : IsSameRank old new) (gained : after ≡ log ++ Took from batch ∷ [])
-    (brings : Brings old.here batch run) where
+    (brings : Brings old.here batch run) (kept : new.controls ≡ old.controls ++ filter is_control batch) where
   pub arrived_now : arrived old.here after ≡ arrived old.here log ++ run
   arrived_now = ap (arrived old.here) gained ∙ arrived-took old.here log from batch ∙ ap (λ xs. arrived old.here log ++ xs) brings.for_here
 
@@ -108,6 +110,10 @@ module _ {C : Type 0} (apply : Applies C) (old new : Rank C) (log after : List E
 
   one_taken : for_rank old.here (letters_taken (Took from batch ∷ [])) ≡ run
   one_taken = ap (for_rank old.here) (append-nil batch) ∙ brings.for_here
+
+  -- its control letters wait to be handed over
+  kept_one : new.controls ≡ old.controls ++ filter is_control (letters_taken (Took from batch ∷ []))
+  kept_one = kept ∙ ap (λ xs. old.controls ++ filter is_control xs) (sym (append-nil batch))
 
   ran_old : old.waiting ≡ [] → arrived old.here log ≡ ran_at old log
   ran_old none = sym (ran_all old log none)
@@ -128,6 +134,7 @@ module _ {C : Type 0} (apply : Applies C) (old new : Rank C) (log after : List E
       gained = record { log = gained; takes = (tt, tt); in_order = λ i j d less within. absurd (omega (arith, less, within)) };
       advanced = subst (Advanced apply old new log after) (sym one_taken) (advanced before none ran);
       nothing_waits = none;
+      controls = kept_one;
       took_count = refl;
     };
     alone = (refl, tt);
@@ -153,6 +160,7 @@ module _ {C : Type 0} (apply : Applies C) (old new : Rank C) (log after : List E
           gained = record { log = gained ∙ sym (append-nil _); takes = (tt, tt); in_order = λ i j d less within. absurd (omega (arith, less, within)); puts = tt; data_alone = tt };
           arrived = one_taken ∙ stuck.waits ∙ ap (λ xs. stuck.run ++ xs) (sym rest_there);
           ran = ran_some before stuck.run stuck.waits;
+          controls = kept_one;
           begun = stuck.stuck.begun;
           sent = sent_more (handed apply old stuck.run ++ stuck.given) stuck.stuck.held;
           run_count = stuck.stuck.run_count;
@@ -242,6 +250,32 @@ module _ {C : Type 0} (apply : Applies C) (old new : Rank C) (log after : List E
           modest = subst IsModest (local_is old new after same) modest;
         }
 
+-- there was no memory to keep a control letter, and nothing was taken
+pub cut_before : {C : Type 0} (from : ℕ) (apply : Applies C) (me : Rank C) (log : List Entry) → me.waiting ≡ [] → (fault : CommFault) → fault ≡ NoMemory → WasCutFrom from apply me me log log fault
+cut_before {C} from apply me log none fault is = subst (WasCutFrom from apply me me log log) (sym is) (record {
+  cut_from = record {
+    cut = record {
+      taken = [];
+      placed = [];
+      run = [];
+      given = [];
+      gained = record { log = sym (append-nil (log ++ []) ∙ append-nil log); takes = tt; in_order = λ i j d less within. absurd (omega (arith, less, within)); puts = tt; data_alone = tt };
+      arrived = sym (ap (for_rank me.here) none);
+      ran = sym (append-nil _);
+      controls = sym (append-nil me.controls);
+      begun = inl (refl, refl);
+      sent = λ to. sym (append-nil _);
+      run_count = omega arith;
+      sent_count = omega arith;
+    };
+    none_placed = refl;
+    alone = tt;
+    one = omega arith;
+  };
+  full_at_first = tt;
+  cause = record { count_full = tt; gave = tt; never_stopped = tt };
+})
+
 -- no batch was there
 pub took_none : {C : Type 0} (from : ℕ) (apply : Applies C) (me : Rank C) (log after : List Entry) → after ≡ log → me.waiting ≡ [] → TookFrom from apply me me log after 0
 took_none {C} from apply me log after is none =
@@ -252,6 +286,7 @@ took_none {C} from apply me log after is none =
         gained = record { log = sym (append-nil log); takes = tt; in_order = λ i j d less within. absurd (omega (arith, less, within)) };
         advanced = record { ran = sym (append-nil _); contents = refl; sent = λ to. sym (append-nil _); run_count = omega arith; sent_count = omega arith };
         nothing_waits = none;
+        controls = sym (append-nil me.controls);
         took_count = refl;
       };
       alone = tt;
@@ -264,6 +299,8 @@ pub record Arrival {C : Type 0} (old : Rank C) (before state : PostState) (from 
   pub gained : state.log old.here ≡ before.log old.here ++ Took from batch ∷ []
   pub modest : IsModest (local_of old (state.log old.here))
   pub brings : Brings old.here batch (for_handlers batch)
+  pub controls : filter is_control batch ≡ (if begins_with_control batch then batch else [])
+  pub read : begins_with_control batch ≡ true → IsControl batch
 
 pub arrival : {C : Type 0} (apply : Applies C) (start : C → C) (old : Rank C) (there : ℕ) (before state : PostState) (from : ℕ) (batch : List Letter) → there ≡ old.here → SamePost there before state →
     Belongs apply start old before → old.scheme ≡ Direct → from < old.layout.ranks → TookBatch there from batch before state → Arrival old before state from batch
@@ -277,6 +314,8 @@ arrival {C} apply start old there before state from batch here same belongs dire
       gained = gained;
       modest = at_old;
       brings = brings (local_of old (before.log old.here)) from batch (omega (arith, sender)) direct (subst N gained at_old);
+      controls = its_controls (local_of old (before.log old.here)) from batch (omega (arith, sender)) direct (subst N gained at_old);
+      read = is_read (local_of old (before.log old.here)) from batch (omega (arith, sender)) direct (subst N gained at_old);
     }
 
 pub few_run : {C : Type 0} (apply : Applies C) (start : C → C) (old : Rank C) (before state : PostState) (from : ℕ) (batch : List Letter) → Arrival old before state from batch →

@@ -1,11 +1,12 @@
 -- What a log has after it gained a take, and what ran then.
-use Rattle.std.proofs.Common.{◌≡◌, ◌≢◌, ℕ, suc, ◌-◌, ◌<◌, Bool, true, false, ◌&&◌, not, nat_eq, eqb-true, eq-eqb, ltb-true, List, [], ◌∷◌, ◌++◌, length, take, drop, refl, sym, ap, ◌∙◌, subst, inl, inr, arith, append-nil, length-append, if◌then◌else◌}
+use Rattle.std.proofs.Common.{◌≡◌, ◌≢◌, ℕ, suc, ◌-◌, ◌<◌, Bool, true, false, ◌&&◌, ◌||◌, not, is_some, Some, None, nat_eq, eqb-true, eq-eqb, List, [], ◌∷◌, ◌++◌, length, take, drop, refl, sym, ap, ◌∙◌, subst, inl, inr, arith, append-nil, length-append, if◌then◌else◌}
 use Rattle.std.specs.Bool.{IsTrue}
-use Rattle.std.specs.List.{AllByRecursion}
+use Rattle.std.specs.List.{AllByRecursion, filter, list_any}
 use Rattle.std.proofs.Math.Seq.{take-append_seam}
-use Rattle.std.proofs.lemmas.Bool.{false_from_ne_true, or_cases}
+use Rattle.std.proofs.lemmas.Bool.{false_from_ne_true, false≢true}
 use Rattle.std.proofs.lemmas.List.Elements.{filter-append}
-use Rattle.msg_codec.specs.Control.{is_control, is_count, is_total}
+use Rattle.msg_codec.specs.Control.{control_of_letter, is_control, is_count, is_total, round_of, sent_of, run_of}
+use Rattle.msg_codec.specs.declared.control.Control.TheVariants.{Count, Total}
 use Rattle.msg_codec.specs.declared.letter.Letter.{Letter}
 use Rattle.ygm_route.specs.declared.scheme.Scheme.{Scheme}
 use Rattle.ygm_route.specs.declared.scheme.Scheme.TheVariants.{Direct}
@@ -16,21 +17,22 @@ use Rattle.ygm_route.proofs.Hop.Cases.{hop-direct}
 use Rattle.ygm_route.proofs.Path.FirstOrLater.{link_of_two}
 use Rattle.world_core.specs.declared.entry.Entry.{Entry}
 use Rattle.world_core.specs.declared.entry.Entry.TheVariants.{Took}
-use Rattle.world_core.specs.Local.{Local, to_forward, is_rank}
+use Rattle.world_core.specs.ControlRules.{wrong_control}
+use Rattle.world_core.specs.Local.{Local, to_forward, is_rank, local_rank}
 use Rattle.world_core.specs.Log.{letters_taken}
 use Rattle.world_core.specs.Modest.{IsLawful, IsModest}
 use Rattle.world_core.specs.Pairs.{arrived, for_rank, is_data, is_of_pair, of_pair, of_sender, pair_put, pair_taken}
 use Rattle.world_core.specs.Sound.{IsOnPath}
 use Rattle.world_core.proofs.Pairs.Appended.{pair_put-took, pair_taken-took}
 use Rattle.world_core.proofs.Log.Appended.{letters_taken-took}
-use Rattle.world_core.proofs.Deeds.TwoKinds.{control_not_data}
+use Rattle.world_core.proofs.Deeds.TwoKinds.{control_not_data, data_not_count, data_not_total}
 use Rattle.world_core.proofs.Modest.Lawful.{batch_kind, lawful_batch}
 use Rattle.list_facts.proofs.Elements.{all_second, all_weaker, both_of}
 use Rattle.list_facts.proofs.Filters.{filter_none}
-use Rattle.list_facts.proofs.Tests.{and_first, and_second}
+use Rattle.list_facts.proofs.Tests.{and_first, and_second, or_false_first}
 use Rattle.world_core.proofs.Log.ByLink.{all_taken}
 use Rattle.comm_rank.specs.Rank.{Rank, ran_at}
-use Rattle.comm_rank.specs.Running.{IsFor, IsOf, for_handlers}
+use Rattle.comm_rank.specs.Running.{IsControl, IsFor, IsOf, begins_with_control, for_handlers}
 
 -- ---- letters for a rank, and from it
 
@@ -122,6 +124,36 @@ data_first : (letters : List Letter) → AllByRecursion (λ l. is_data l ≡ tru
 data_first [] h = refl
 data_first (l ∷ letters) h = rw h.0 refl
 
+data_not_control : (l : Letter) → is_data l ≡ true → is_control l ≡ false
+data_not_control l tag =
+    let count : is_count l ≡ false = data_not_count l tag in
+    let total : is_total l ≡ false = data_not_total l tag in
+    rw (count, total) refl
+
+controls_none : (letters : List Letter) → AllByRecursion (λ l. is_data l ≡ true) letters → filter is_control letters ≡ (if begins_with_control letters then letters else [])
+controls_none [] all = refl
+controls_none (l ∷ letters) all =
+    let none : filter is_control (l ∷ letters) ≡ [] = filter_none is_control (l ∷ letters) (all_weaker (λ x. is_data x ≡ true) (λ x. is_control x ≡ false) (l ∷ letters) data_not_control all) in
+    none ∙ rw all.0 refl
+
+begins_none : (letters : List Letter) → AllByRecursion (λ l. is_data l ≡ true) letters → begins_with_control letters ≡ false
+begins_none [] all = refl
+begins_none (l ∷ letters) all = rw all.0 refl
+
+-- A control letter that breaks no rule is a Count to rank 0 or a Total from it, and can be read.
+read_right : (me : Local) (to : ℕ) (l : Letter) → is_control l ≡ true → wrong_control me to l ≡ false → is_some (control_of_letter l) ≡ true
+read_right me to l control right = by_kind (is_count l) (is_total l) (nat_eq l.to 0) (nat_eq l.from 0) (nat_eq l.from me.here) (nat_eq to 0) (nat_eq me.here 0) (nat_eq l.to to) control right
+  where
+    by_kind : (count total to_first from_first mine first here there : Bool) → (count || total) ≡ true → ((count && not (mine && to_first && first)) || (total && not (here && from_first && there))) ≡ false →
+        is_some (if count && to_first then Some (Count l.from (round_of l) (sent_of l) (run_of l)) else if total && from_first then Some (Total l.to (round_of l) (sent_of l) (run_of l)) else None) ≡ true
+    by_kind true total true from_first mine first here there kind right = refl
+    by_kind false true to_first true mine first here there kind right = refl
+    by_kind false false to_first from_first mine first here there kind right = absurd cc
+    by_kind true total false from_first true first here there kind right = absurd cc
+    by_kind true total false from_first false first here there kind right = absurd cc
+    by_kind false true to_first false mine first true there kind right = absurd cc
+    by_kind false true to_first false mine first false there kind right = absurd cc
+
 module _ (me : Local) (from : ℕ) (batch : List Letter) (some : 0 < me.layout.ranks) (direct : me.scheme ≡ Direct) (modest : IsModest (record me { log = me.log ++ Took from batch ∷ [] })) where
   abbrev now : Local
   now = record me { log = me.log ++ Took from batch ∷ [] }
@@ -149,6 +181,31 @@ module _ (me : Local) (from : ℕ) (batch : List Letter) (some : 0 < me.layout.r
             let P : List Letter → Type 0 = λ b. Brings me.here b (for_handlers b) in
             let alone : for_handlers (one.letter ∷ []) ≡ [] = rw none refl in
             subst P (sym one.alone) (subst (Brings me.here (one.letter ∷ [])) (sym alone) (brings_none me.here one.letter none))
+      ]
+
+  -- its control letters are the batch itself, where it begins with one
+  pub its_controls : filter is_control batch ≡ (if begins_with_control batch then batch else [])
+  its_controls =
+      let lawful : IsLawful now (Took from batch) = (all_second (IsLawful now) me.log (Took from batch ∷ []) modest.lawful).0 in
+      elim (batch_kind now from batch (lawful_batch now from batch lawful)) [
+        | inl all ↦ controls_none batch all
+        | inr one ↦
+            let none : is_data one.letter ≡ false = control_not_data one.letter one.control in
+            let P : List Letter → Type 0 = λ b. filter is_control b ≡ (if begins_with_control b then b else []) in
+            subst P (sym one.alone) (rw (one.control, none) refl)
+      ]
+
+  -- and such a batch is one control letter, which can be read
+  pub is_read : begins_with_control batch ≡ true → IsControl batch
+  is_read begins =
+      let lawful : IsLawful now (Took from batch) = (all_second (IsLawful now) me.log (Took from batch ∷ []) modest.lawful).0 in
+      let rules = lawful_batch now from batch lawful in
+      elim (batch_kind now from batch rules) [
+        | inl all ↦ absurd (false≢true (sym (begins_none batch all) ∙ begins))
+        | inr one ↦
+            let P : List Letter → Type 0 = λ b. list_any (wrong_control (local_rank me.layout me.scheme from []) me.here) b ≡ false in
+            let right : wrong_control (local_rank me.layout me.scheme from []) me.here one.letter ≡ false = or_false_first _ _ (subst P one.alone rules.control) in
+            record { letter = one.letter; alone = one.alone; read = read_right (local_rank me.layout me.scheme from []) me.here one.letter one.control right }
       ]
 
 -- ---- what ran

@@ -3,7 +3,7 @@ use Rattle.std.proofs.Common.{◌≡◌, ℕ, Bool, refl, sym, ap, ◌∙◌, su
 use Rattle.world_core.specs.Post.{SamePost, PostState}
 use Rattle.comm_rank.specs.Agrees.{Agrees, Belongs}
 use Rattle.comm_rank.specs.Fold.{Applies}
-use Rattle.comm_rank.specs.Rank.{IsSameRank, Rank, Worked}
+use Rattle.comm_rank.specs.Rank.{IsSameRank, OnlyRan, Rank, Worked}
 
 pub same_rank_none : {C : Type 0} (me : Rank C) → IsSameRank me me
 same_rank_none me = record { layout = refl; scheme = refl; here = refl; most = refl }
@@ -33,10 +33,24 @@ same_rank {C} old new w = record {
   most = ap (λ (me : Rank C). me.most) w;
 }
 
+pub same_ran : {C : Type 0} (old new : Rank C) → OnlyRan old new → IsSameRank old new
+same_ran {C} old new w = record {
+  layout = ap (λ (me : Rank C). me.layout) w;
+  scheme = ap (λ (me : Rank C). me.scheme) w;
+  here = ap (λ (me : Rank C). me.here) w;
+  most = ap (λ (me : Rank C). me.most) w;
+}
+
+-- letters that ran, after others
+pub ran_then : {C : Type 0} (a b c : Rank C) → OnlyRan a b → OnlyRan b c → OnlyRan a c
+ran_then {C} a b c first second =
+    let P : Rank C → Type 0 = λ r. c ≡ record r { contents = c.contents; sent_count = c.sent_count; run_count = c.run_count; held = c.held; waiting = c.waiting } in
+    subst P first second
+
 -- two pieces of work, one after the other
 pub worked_then : {C : Type 0} (a b c : Rank C) → Worked a b → Worked b c → Worked a c
 worked_then {C} a b c first second =
-    let P : Rank C → Type 0 = λ r. c ≡ record r { contents = c.contents; sent_count = c.sent_count; run_count = c.run_count; held = c.held; waiting = c.waiting } in
+    let P : Rank C → Type 0 = λ r. c ≡ record r { contents = c.contents; sent_count = c.sent_count; run_count = c.run_count; held = c.held; waiting = c.waiting; controls = c.controls } in
     subst P first second
 
 -- ---- a post

@@ -1,6 +1,7 @@
 -- What a take from one rank does to a rank that belongs to the post.
-use Rattle.std.proofs.Common.{◌≡◌, ℕ, ◌+◌, ◌<◌, ◌≤◌, Bool, true, false, List, [], length, refl, ap, sym, ◌∙◌, subst, inl, arith}
-use Rattle.std.specs.List.{AllByRecursion}
+use Rattle.std.proofs.Common.{◌≡◌, ℕ, ◌+◌, ◌<◌, ◌≤◌, Bool, true, false, List, [], ◌++◌, length, append-nil, refl, ap, sym, ◌∙◌, subst, inl, arith}
+use Rattle.std.specs.List.{AllByRecursion, filter}
+use Rattle.msg_codec.specs.Control.{is_control}
 use Rattle.msg_codec.specs.declared.letter.Letter.{Letter}
 use Rattle.ygm_route.specs.declared.scheme.Scheme.TheVariants.{Direct}
 use Rattle.world_core.specs.Limits.{most_arrived}
@@ -11,10 +12,10 @@ use Rattle.comm_rank.specs.declared.fault.CommFault.{CommFault}
 use Rattle.comm_rank.specs.Agrees.{Agrees, Belongs, MayTurn}
 use Rattle.comm_rank.specs.Fold.{Applies}
 use Rattle.comm_rank.specs.Rank.{IsSameRank, Rank, local_of}
-use Rattle.comm_rank.specs.Running.{HasRunAll, HasTakenFrom, IsFor, StuckIn, TakesKeep, WasCutFrom, begins_with_control, for_handlers}
+use Rattle.comm_rank.specs.Running.{HasRunAll, HasTakenFrom, IsControl, IsFor, StuckIn, TakesKeep, WasCutFrom, begins_with_control, for_handlers}
 use Rattle.comm_rank.proofs.Agrees.Arrived.{Brings}
 use Rattle.comm_rank.proofs.Running.RunAll.{ran_none}
-use Rattle.comm_rank.proofs.Rank.Same.{belongs_still, same_rank_none}
+use Rattle.comm_rank.proofs.Rank.Same.{belongs_still}
 use Rattle.comm_rank.proofs.Agrees.AfterTake.{Arrival, agrees_now, arrival, cut_from, few_run, honest_took, link_unchanged, looked_none, may_turn_now, not_looked_none, same_log, taken_here, taken_other, took_from, took_none}
 
 -- the letters of a batch for handlers, by its first letter
@@ -71,25 +72,25 @@ module _ {C : Type 0} (apply : Applies C) (start : C → C) (old : Rank C) (ther
       pub batch_few : old.run_count + length run ≤ most_arrived
       batch_few = omega (arith, few_run apply start old before after from batch arrived belongs.agrees, ap length is)
 
-      module _ (new : Rank C) (same : IsSameRank old new) where
+      module _ (new : Rank C) (same : IsSameRank old new) (kept : new.controls ≡ old.controls ++ filter is_control batch) where
         pub batch_cut : (fault : CommFault) → StuckIn apply old new run fault → WasCutFrom from apply old new (before.log old.here) (after.log old.here) fault
-        batch_cut = cut_from apply old new (before.log old.here) (after.log old.here) from batch run same arrived.gained brings belongs.agrees.nothing_waits
+        batch_cut = cut_from apply old new (before.log old.here) (after.log old.here) from batch run same arrived.gained brings kept belongs.agrees.nothing_waits
 
         pub batch_taken : ((c : C) (here ranks : ℕ) (l : Letter) → start (apply c here ranks l).0 ≡ start c) → new.waiting ≡ [] → HasRunAll apply old new run → HasTakenFrom from apply start old new before after 1
         batch_taken started none ran =
             let log = before.log old.here in
             let now = after.log old.here in
-            let agrees : Agrees apply start new now = agrees_now apply old new log now from batch run same arrived.gained brings start started belongs.agrees none ran arrived.modest in
+            let agrees : Agrees apply start new now = agrees_now apply old new log now from batch run same arrived.gained brings kept start started belongs.agrees none ran arrived.modest in
             let P : ℕ → Type 0 = λ h. Agrees apply start new (after.log h) in
             record {
-              taken = took_from apply old new log now from batch run same arrived.gained brings belongs.agrees.nothing_waits none ran;
+              taken = took_from apply old new log now from batch run same arrived.gained brings kept belongs.agrees.nothing_waits none ran;
               belongs = record {
                 serves = ap after.serves same.here ∙ keeps.same.serves old.here ∙ belongs.serves;
                 layout = keeps.same.layout ∙ belongs.layout ∙ sym same.layout;
                 scheme = keeps.same.scheme ∙ belongs.scheme ∙ sym same.scheme;
                 agrees = subst P (sym same.here) agrees;
               };
-              may_turn = may_turn_now apply old new log now from batch run same arrived.gained brings ran may;
+              may_turn = may_turn_now apply old new log now from batch run same arrived.gained brings kept ran may;
               looked = inl (taken_here from batch log now arrived.gained);
               others = λ other ne. record {
                 taken = taken_other from other batch log now arrived.gained ne;
@@ -99,6 +100,21 @@ module _ {C : Type 0} (apply : Applies C) (start : C → C) (old : Rank C) (ther
               };
             }
 
-    -- where none of them is, the rank is unchanged
-    pub control_taken : for_handlers batch ≡ [] → ((c : C) (here ranks : ℕ) (l : Letter) → start (apply c here ranks l).0 ≡ start c) → HasTakenFrom from apply start old old before after 1
-    control_taken is started = batch_taken [] is old (same_rank_none old) started belongs.agrees.nothing_waits (ran_none apply old)
+    -- a batch of data letters holds no control letter
+    pub none_kept : (control : Bool) → control ≡ begins_with_control batch → control ≡ false → (new : Rank C) → new.controls ≡ old.controls → new.controls ≡ old.controls ++ filter is_control batch
+    none_kept control is none new same =
+        let nothing : filter is_control batch ≡ [] = arrived.controls ∙ rw (sym is ∙ none) refl in
+        same ∙ sym (ap (λ xs. old.controls ++ xs) nothing ∙ append-nil old.controls)
+
+    pub control_read : (control : Bool) → control ≡ begins_with_control batch → control ≡ true → IsControl batch
+    control_read control is some = arrived.read (sym is ∙ some)
+
+    -- a control letter is kept, and the rank is otherwise unchanged
+    pub control_taken : (control : Bool) → control ≡ begins_with_control batch → control ≡ true → (controls : List Letter) → controls ≡ old.controls ++ batch →
+        ((c : C) (here ranks : ℕ) (l : Letter) → start (apply c here ranks l).0 ≡ start c) → HasTakenFrom from apply start old (record old { controls = controls }) before after 1
+    control_taken control is some controls more started =
+        let all : filter is_control batch ≡ batch = arrived.controls ∙ rw (sym is ∙ some) refl in
+        let new : Rank C = record old { controls = controls } in
+        let nothing : HasRunAll apply old old [] = ran_none apply old in
+        batch_taken [] (none_for_handlers batch control is some) new (record { layout = refl; scheme = refl; here = refl; most = refl }) (more ∙ ap (λ xs. old.controls ++ xs) (sym all)) started
+        belongs.agrees.nothing_waits (record { contents = nothing.contents; held = nothing.held; lawful = nothing.lawful; run_count = nothing.run_count; sent_count = nothing.sent_count })

@@ -1,6 +1,7 @@
 -- Takes from one rank after another.
 use Rattle.std.proofs.Common.{◌≡◌, ◌≢◌, ℕ, ◌+◌, ◌<◌, ◌≤◌, List, [], ◌∷◌, ◌++◌, length, refl, sym, ap, ◌∙◌, subst, inl, inr, arith, append-nil, append_assoc, length-append}
-use Rattle.std.specs.List.{AllByRecursion, AllPairs}
+use Rattle.std.specs.List.{AllByRecursion, AllPairs, filter}
+use Rattle.msg_codec.specs.Control.{is_control}
 use Rattle.std.proofs.lemmas.Bool.{cases_eq}
 use Rattle.std.proofs.lemmas.Grind.{flat_map-append}
 use Rattle.std.proofs.lemmas.List.Elements.{filter-append}
@@ -69,6 +70,15 @@ module _ {C : Type 0} (apply : Applies C) (old mid new : Rank C) (before between
     taken : List Entry
     taken = first.all.taken
 
+    controls_both : (later : List Entry) → new.controls ≡ mid.controls ++ filter is_control (letters_taken later) →
+        new.controls ≡ old.controls ++ filter is_control (letters_taken (first.all.taken ++ later))
+    controls_both later second =
+        let both : filter is_control (letters_taken (first.all.taken ++ later)) ≡ filter is_control (letters_taken first.all.taken) ++ filter is_control (letters_taken later) =
+        ap (filter is_control) (flat_map-append letters_taken_by first.all.taken later) ∙ filter-append is_control (letters_taken first.all.taken) (letters_taken later) in
+        second ∙ ap (λ xs. xs ++ filter is_control (letters_taken later)) first.all.controls
+        ∙ append_assoc old.controls (filter is_control (letters_taken first.all.taken)) (filter is_control (letters_taken later))
+        ∙ ap (λ xs. old.controls ++ xs) (sym both)
+
     pub joined : (more : ℕ) → TookFrom from apply mid new between after more → TookBelow (from + 1) apply old new before after (took + more)
     joined more second =
         let later = second.all.taken in
@@ -86,6 +96,7 @@ module _ {C : Type 0} (apply : Applies C) (old mid new : Rank C) (before between
             advanced = subst (Advanced apply old new before after) (ap (λ xs. run ++ xs) there ∙ sym (taken_append old.here first.all.taken later))
                 (advanced_more run (for_rank mid.here (letters_taken later)) first.all.advanced second.all.advanced);
             nothing_waits = second.all.nothing_waits;
+            controls = controls_both later second.all.controls;
             took_count = omega (arith, first.all.took_count, second.all.took_count, length-append first.all.taken later);
           };
           below = below_more from first.all.taken later first.below second.alone;
@@ -113,6 +124,7 @@ module _ {C : Type 0} (apply : Applies C) (old mid new : Rank C) (before between
               ∙ ap (λ xs. run ++ xs) (ap (λ h. for_rank h n) (sym same.here) ∙ c.arrived ∙ ap (λ h. c.run ++ for_rank h new.waiting) same.here)
               ∙ sym (append_assoc run c.run (for_rank old.here new.waiting));
           ran = c.ran ∙ ap (λ xs. xs ++ c.run) first.all.advanced.ran ∙ append_assoc (ran_at old before) run c.run;
+          controls = controls_both c.taken c.controls;
           begun = begun_same apply old mid new same.here same.layout new.waiting c.given _ _ new.contents
               (folded_on apply old mid new same.here same.layout run first.all.advanced.contents c.run) c.begun;
           sent = sent_both run c.run first.all.advanced c.given c.sent;
@@ -145,6 +157,7 @@ took_nothing apply me log bound none = record {
     gained = record { log = sym (append-nil log); takes = tt; in_order = λ i j d less within. absurd (omega (arith, less, within)) };
     advanced = record { ran = sym (append-nil _); contents = refl; sent = λ to. sym (append-nil _); run_count = omega arith; sent_count = omega arith };
     nothing_waits = none;
+    controls = sym (append-nil me.controls);
     took_count = refl;
   };
   below = tt;

@@ -108,6 +108,7 @@ cut_at_once {C} apply me now log after none is same =
       gained = record { log = sym (append-nil (log ++ []) ∙ append-nil log); takes = tt; in_order = λ i j d less within. absurd (omega (arith, less, within)); puts = tt; data_alone = tt };
       arrived = sym (ap (λ xs. for_rank me.here xs) none);
       ran = sym (append-nil _);
+      controls = sym (append-nil me.controls);
       begun = inl (refl, refl);
       sent = λ to. sym (append-nil _);
       run_count = omega arith;

@@ -145,3 +145,18 @@ loses n lists to first rest held within is front each =
           let test : Letter → Bool = λ x. is_data x && (x.from == s) in
           omega (arith, senders_set s lists to rest inside, ap (λ xs. length (of_sender s xs)) is, ap length (filter-append test first rest), length-append (of_sender s first) (of_sender s rest));
     }
+
+-- ---- where nothing is held
+
+pub all_empty : (lists : List (List Letter)) → ((to : ℕ) → to < length lists → held_for lists to ≡ []) → letters_of lists ≡ []
+all_empty [] none = refl
+all_empty (letters ∷ lists) none =
+    let first : letters ≡ [] = none zero (omega arith) in
+    ap (λ xs. xs ++ letters_of lists) first ∙ all_empty lists (λ to within. none (suc to) (omega (arith, within)))
+
+pub each_empty : (lists : List (List Letter)) → letters_of lists ≡ [] → (to : ℕ) → held_for lists to ≡ []
+each_empty [] none zero = refl
+each_empty [] none (suc to) = refl
+each_empty ([] ∷ lists) none zero = refl
+each_empty ([] ∷ lists) none (suc to) = each_empty lists none to
+each_empty ((l ∷ letters) ∷ lists) none to = absurd cc

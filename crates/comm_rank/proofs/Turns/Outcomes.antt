@@ -1,16 +1,16 @@
 -- What a turn does, from its takes and its puts.
-use Rattle.std.proofs.Common.{◌≡◌, ℕ, ◌-◌, ◌^◌, min, false, is_err, Result, Ok, Err, Option, Some, None, List, [], ◌∷◌, ◌++◌, refl, sym, ap, ◌∙◌, subst, inl, inr, length, arith, append-nil}
+use Rattle.std.proofs.Common.{◌≡◌, ℕ, ◌+◌, ◌-◌, ◌^◌, min, false, is_err, Result, Ok, Err, Option, Some, None, List, [], ◌∷◌, ◌++◌, refl, sym, ap, ◌∙◌, subst, inl, inr, length, arith, append-nil}
 use Rattle.std.specs.Bool.{IsTrue}
 use Rattle.std.specs.List.{AllByRecursion}
 use Rattle.std.specs.Result.{IfOk}
-use Rattle.std.proofs.lemmas.Bool.{false≢true}
+use Rattle.std.proofs.lemmas.Bool.{cases_eq, false≢true}
 use Rattle.std.proofs.lemmas.List.Elements.{filter_map-append}
 use Rattle.msg_codec.specs.declared.letter.Letter.{Letter}
 use Rattle.world_core.specs.declared.entry.Entry.{Entry}
 use Rattle.world_core.specs.declared.entry.Entry.TheVariants.{Put, Took}
-use Rattle.world_core.specs.Log.{IsPut, batches_taken, letters_taken, took_from}
+use Rattle.world_core.specs.Log.{IsPut, batches_taken, letters_taken, link_between, took_from}
 use Rattle.world_core.specs.Pairs.{for_rank, of_pair}
-use Rattle.world_core.specs.Post.{SameFulls, SameMisses, PostState, is_full_in}
+use Rattle.world_core.specs.Post.{LookKeeps, SameFulls, SameMisses, PostState, is_full_in, link_in}
 use Rattle.world_core.specs.Rising.{Rose}
 use Rattle.comm_rank.specs.Agrees.{PutsData}
 use Rattle.comm_rank.specs.declared.fault.CommFault.{CommFault}
@@ -53,6 +53,7 @@ module _ {C : Type 0} (apply : Applies C) (old mid new : Rank C) (before between
         gained = record { log = whole_log; takes = first.gained.takes; in_order = first.gained.in_order; puts = out.puts; data_alone = out.data_alone };
         arrived = sym (append-nil run) ∙ ap (λ xs. run ++ for_rank old.here xs) (sym waits);
         ran = out.ran ∙ first.advanced.ran;
+        controls = still (λ me. me.controls) ∙ first.controls;
         begun = inl (still (λ me. me.contents) ∙ first.advanced.contents, refl);
         sent = λ to. out.sent to ∙ first.advanced.sent to ∙ ap (λ xs. sent_to old before to ++ of_pair old.here to xs) (sym (append-nil (handed apply old run)));
         run_count = still (λ me. me.run_count) ∙ first.advanced.run_count;
@@ -72,6 +73,7 @@ module _ {C : Type 0} (apply : Applies C) (old mid new : Rank C) (before between
       sent_count = still (λ me. me.sent_count) ∙ first.advanced.sent_count;
     };
     nothing_waits = still (λ me. me.waiting) ∙ first.nothing_waits;
+    controls = still (λ me. me.controls) ∙ first.controls;
     took = t ∙ first.took_count;
     put = p;
   }
@@ -131,6 +133,7 @@ module _ {C : Type 0} (apply : Applies C) (old was mid : Rank C) (before looked 
         gained = c.gained;
         arrived = c.arrived;
         ran = c.ran;
+        controls = c.controls;
         begun = c.begun;
         sent = c.sent;
         run_count = c.run_count;
@@ -150,6 +153,35 @@ module _ {C : Type 0} (apply : Applies C) (old was mid : Rank C) (before looked 
         full_at_first = if_full fault (λ _ full. full_stopped full) w.full_at_first;
         cause = record { count_full = cause.count_full; gave = cause.gave; never_stopped = cause.never_stopped };
       }
+
+-- a look at the stop before it changed nothing that it says
+module _ {C : Type 0} (apply : Applies C) (start : C → C) (old new : Rank C) (here : ℕ) (before looked after : PostState) (same : here ≡ old.here) (keeps : LookKeeps here before looked) where
+  look_logs : (rank : ℕ) → looked.log rank ≡ before.log rank
+  look_logs rank = elim (cases_eq rank here) [
+    | inl is ↦ let P : ℕ → Type 0 = λ r. looked.log r ≡ before.log r in subst P (sym is) keeps.log
+    | inr other ↦ keeps.same.other_logs rank other
+  ]
+
+  looked_since : (from : ℕ) → LookedAt old.here from looked after → LookedAt old.here from before after
+  looked_since from found = elim found [
+    | inl took ↦ inl (took ∙ ap (λ log. length (batches_taken from log) + 1) (look_logs old.here))
+    | inr missed ↦
+        let link : link_in looked from old.here ≡ link_in before from old.here =
+        ap (λ log. link_between from old.here log (looked.log old.here)) (look_logs from) ∙ ap (λ log. link_between from old.here (before.log from) log) (look_logs old.here) in
+        inr (subst (λ n. Rose n (after.misses from)) (keeps.misses from) missed.0, λ served. sym link ∙ missed.1 (keeps.same.serves from ∙ served))
+  ]
+
+  pub ended_since : looked.halts ≡ before.halts → (turn : Turn) → HasEnded apply start old new looked after turn → HasEnded apply start old new before after turn
+  ended_since halts turn e = record {
+    turned = subst (λ log. Turned apply old new log (after.log old.here) turn) (look_logs old.here) e.turned;
+    belongs = e.belongs;
+    may_turn = e.may_turn;
+    takes_from_each = λ from within. looked_since from (e.takes_from_each from within);
+    puts_to_each = λ to within. met_then old.here old.here before looked after refl keeps.fulls keeps.same.serves to new.held (e.puts_to_each to within);
+    full = full_then old.here old.here before looked after refl keeps.fulls keeps.same.serves old.layout.ranks old.layout.ranks refl new.held turn.full e.full;
+    stops = λ rank. e.stops rank ∙ keeps.stops rank;
+    halts = e.halts ∙ halts;
+  }
 
 -- a rank that isn't stopped after a turn has put data letters alone
 pub data_after : {C : Type 0} (apply : Applies C) (start : C → C) (me now : Rank C) (old new : PostState) (r : Result Turn CommFault) → IfOk r (HasEnded apply start me now old new) →

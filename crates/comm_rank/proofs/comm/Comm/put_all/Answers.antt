@@ -1,4 +1,5 @@
-use Rattle.std.proofs.Common.{◌≡◌, ℕ, sym, ap, subst, arith}
+use Rattle.std.proofs.Common.{map, ◌≡◌, ℕ, sym, ap, subst, arith}
+use Rattle.msg_codec.specs.Control.{letter_of_control}
 use Rattle.std.proofs.lemmas.Result.{IfErr-weaker, IfOk-weaker}
 use Rattle.world_core.specs.Post.{PostState}
 use Rattle.comm_rank.specs.Agrees.{Belongs, MayTurn}
@@ -10,7 +11,7 @@ use Rattle.comm_rank.proofs.comm.Comm.put_all.Goals as goal
 pub put_each-requires-clause-may_put : goal.put_each-requires-clause-may_put
 put_each-requires-clause-may_put g c =
     let i = c.self.inside in
-    let me : Rank g.row.H.Denot = record { layout = i.layout; scheme = i.scheme; here = i.here; most = i.limits.letters; contents = i.handler; sent_count = i.sent.count; run_count = i.ran; held = i.held.lists; waiting = i.waiting; stopped = i.stopped } in
+    let me : Rank g.row.H.Denot = record { layout = i.layout; scheme = i.scheme; here = i.here; most = i.limits.letters; contents = i.handler; sent_count = i.sent.count; run_count = i.ran; held = i.held.lists; waiting = i.waiting; controls = map letter_of_control i.controls.items; stopped = i.stopped } in
     let is : me ≡ c.args.self.now = c.self.view_is in
     let old : PostState = g.P.Post.state c.args.post.now in
     may_put g.H.Handler.apply g.H.Handler.start me old (subst (λ m. Belongs g.H.Handler.apply g.H.Handler.start m old) (sym is) c.requires.belongs) c.self.invariant.1 (subst (λ m. MayTurn m (old.log m.here)) (sym is) c.requires.may_turn) c.self.invariant.0 c.self.invariant.5
@@ -19,7 +20,7 @@ put_each-requires-clause-may_put g c =
 pub returns-clause-put : goal.returns-clause-put
 returns-clause-put g c =
     let i = c.self.inside in
-    let me : Rank g.row.H.Denot = record { layout = i.layout; scheme = i.scheme; here = i.here; most = i.limits.letters; contents = i.handler; sent_count = i.sent.count; run_count = i.ran; held = i.held.lists; waiting = i.waiting; stopped = i.stopped } in
+    let me : Rank g.row.H.Denot = record { layout = i.layout; scheme = i.scheme; here = i.here; most = i.limits.letters; contents = i.handler; sent_count = i.sent.count; run_count = i.ran; held = i.held.lists; waiting = i.waiting; controls = map letter_of_control i.controls.items; stopped = i.stopped } in
     let is : me ≡ c.args.self.now = c.self.view_is in
     let old : PostState = g.P.Post.state c.args.post.now in
     let new : PostState = g.P.Post.state c.put_each.new.post in
@@ -31,7 +32,7 @@ returns-clause-put g c =
 pub returns-clause-failed : goal.returns-clause-failed
 returns-clause-failed g c =
     let i = c.self.inside in
-    let me : Rank g.row.H.Denot = record { layout = i.layout; scheme = i.scheme; here = i.here; most = i.limits.letters; contents = i.handler; sent_count = i.sent.count; run_count = i.ran; held = i.held.lists; waiting = i.waiting; stopped = i.stopped } in
+    let me : Rank g.row.H.Denot = record { layout = i.layout; scheme = i.scheme; here = i.here; most = i.limits.letters; contents = i.handler; sent_count = i.sent.count; run_count = i.ran; held = i.held.lists; waiting = i.waiting; controls = map letter_of_control i.controls.items; stopped = i.stopped } in
     let is : me ≡ c.args.self.now = c.self.view_is in
     let old : PostState = g.P.Post.state c.args.post.now in
     let new : PostState = g.P.Post.state c.put_each.new.post in
@@ -43,7 +44,7 @@ returns-clause-failed g c =
 pub returns-clause-belongs : goal.returns-clause-belongs
 returns-clause-belongs g c =
     let i = c.self.inside in
-    let me : Rank g.row.H.Denot = record { layout = i.layout; scheme = i.scheme; here = i.here; most = i.limits.letters; contents = i.handler; sent_count = i.sent.count; run_count = i.ran; held = i.held.lists; waiting = i.waiting; stopped = i.stopped } in
+    let me : Rank g.row.H.Denot = record { layout = i.layout; scheme = i.scheme; here = i.here; most = i.limits.letters; contents = i.handler; sent_count = i.sent.count; run_count = i.ran; held = i.held.lists; waiting = i.waiting; controls = map letter_of_control i.controls.items; stopped = i.stopped } in
     let is : me ≡ c.args.self.now = c.self.view_is in
     let old : PostState = g.P.Post.state c.args.post.now in
     let new : PostState = g.P.Post.state c.put_each.new.post in
@@ -55,7 +56,7 @@ returns-clause-belongs g c =
 pub returns-clause-may_turn : goal.returns-clause-may_turn
 returns-clause-may_turn g c =
     let i = c.self.inside in
-    let me : Rank g.row.H.Denot = record { layout = i.layout; scheme = i.scheme; here = i.here; most = i.limits.letters; contents = i.handler; sent_count = i.sent.count; run_count = i.ran; held = i.held.lists; waiting = i.waiting; stopped = i.stopped } in
+    let me : Rank g.row.H.Denot = record { layout = i.layout; scheme = i.scheme; here = i.here; most = i.limits.letters; contents = i.handler; sent_count = i.sent.count; run_count = i.ran; held = i.held.lists; waiting = i.waiting; controls = map letter_of_control i.controls.items; stopped = i.stopped } in
     let is : me ≡ c.args.self.now = c.self.view_is in
     let old : PostState = g.P.Post.state c.args.post.now in
     let new : PostState = g.P.Post.state c.put_each.new.post in

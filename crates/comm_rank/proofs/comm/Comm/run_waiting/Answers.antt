@@ -2,28 +2,28 @@ use Rattle.std.proofs.Common.{IfErr, ◌++◌, [], ◌∷◌, length-append, ari
 use Rattle.std.proofs.lemmas.Result.{IfErr-weaker}
 use Rattle.comm_rank.specs.Running.{StuckFirst}
 use Rattle.comm_rank.proofs.Running.RunAll.{ran_more, rest_for, stuck_among, waits_one_less}
-use Rattle.comm_rank.proofs.Rank.Same.{same_rank, worked_then}
+use Rattle.comm_rank.proofs.Rank.Same.{ran_then, same_ran}
 use Rattle.comm_rank.proofs.comm.Comm.run_waiting.Goals as goal
 
 pub run_first-requires-clause-for_here : goal.run_first-requires-clause-for_here
 run_first-requires-clause-for_here g c =
     let inv = c.loop.invariant in
-    rest_for _ _ c.args.self.now.waiting inv.run _ inv.waits (same_rank c.args.self.now c.loop.self inv.rank).here c.requires.for_here
+    rest_for _ _ c.args.self.now.waiting inv.run _ inv.waits (same_ran c.args.self.now c.loop.self inv.rank).here c.requires.for_here
 
 pub returns-in_err-run_first-clause-stuck : goal.returns-in_err-run_first-clause-stuck
 returns-in_err-run_first-clause-stuck g c =
     let inv = c.loop.invariant in
     let there : IfErr c.from_residual.result (StuckFirst g.H.Handler.apply c.loop.self c.run_first.new.self) = search rules in
     IfErr-weaker c.from_residual.result _ _
-    (stuck_among g.H.Handler.apply c.args.self.now c.loop.self c.run_first.new.self (same_rank c.args.self.now c.loop.self inv.rank) inv.run inv.waits inv.ran) there
+    (stuck_among g.H.Handler.apply c.args.self.now c.loop.self c.run_first.new.self (same_ran c.args.self.now c.loop.self inv.rank) inv.run inv.waits inv.ran) there
 
 pub returns-in_err-run_first-clause-rank : goal.returns-in_err-run_first-clause-rank
-returns-in_err-run_first-clause-rank g c = worked_then c.args.self.now c.loop.self c.run_first.new.self c.loop.invariant.rank c.run_first.ensures.rank
+returns-in_err-run_first-clause-rank g c = ran_then c.args.self.now c.loop.self c.run_first.new.self c.loop.invariant.rank c.run_first.ensures.rank
 
 pub loop-preserved : goal.loop-preserved
 loop-preserved g c =
     let inv = c.loop.invariant in
-    let same = same_rank c.args.self.now c.loop.self inv.rank in
+    let same = same_ran c.args.self.now c.loop.self inv.rank in
     let one = c.in_ok-run_first.ensures.ran in
     record {
       run = inv.run ++ one.letter ∷ [];
@@ -31,5 +31,5 @@ loop-preserved g c =
       long = omega (arith, inv.long, length-append inv.run (one.letter ∷ []));
       ran = ran_more g.H.Handler.apply _ _ _ same.here same.layout inv.run (one.letter ∷ []) inv.ran one.ran;
       count = inv.count;
-      rank = worked_then c.args.self.now c.loop.self c.run_first.new.self inv.rank c.run_first.ensures.rank;
+      rank = ran_then c.args.self.now c.loop.self c.run_first.new.self inv.rank c.run_first.ensures.rank;
     }

@@ -1,6 +1,6 @@
 use Rattle.std.proofs.Common.{◌≡◌, ◌++◌, List, length}
 use Rattle.msg_codec.specs.declared.letter.Letter.{Letter}
-use Rattle.comm_rank.specs.Rank.{Worked}
+use Rattle.comm_rank.specs.Rank.{OnlyRan}
 use Rattle.comm_rank.specs.Running.{HasRunAll}
 use Rattle.comm_rank.proofs.comm.Comm.run_waiting.Given as goal
 
@@ -12,5 +12,5 @@ invariant-loop g l = record {
   long : length run ≡ l.counter;
   ran : HasRunAll g.H.Handler.apply l.fn.self l.self run;
   count : l.end ≡ length l.fn.self.waiting;
-  rank : Worked l.fn.self l.self;
+  rank : OnlyRan l.fn.self l.self;
 }
