@@ -6,3 +6,4 @@ pub mod CompleteRun
 pub mod Passed
 pub mod Left
 pub mod Served
+pub mod Barriers

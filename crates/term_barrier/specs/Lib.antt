@@ -6,5 +6,6 @@ pub mod CountedPlace
 pub mod Passed
 pub mod Left
 pub mod Polls
+pub mod Barriers
 pub mod Served
 pub mod Worked

@@ -6,8 +6,6 @@ use Rattle.msg_codec.specs.declared.letter.Letter.{Letter}
 use Rattle.world_core.specs.declared.entry.Entry.{Entry}
 use Rattle.world_core.specs.declared.entry.Entry.TheVariants.{Put, Took}
 use Rattle.world_core.specs.Counts.{counts}
-use Rattle.world_core.specs.Log.{letters_put}
-use Rattle.world_core.specs.Pairs.{is_data}
 use Rattle.comm_rank.specs.declared.turn.Turn.{Turn}
 use Rattle.comm_rank.specs.Fold.{Applies}
 use Rattle.comm_rank.specs.Rank.{Rank, held_letters}
@@ -26,10 +24,9 @@ pub record GainedControls (held : List Letter) (before after : List Entry) : Typ
   pub one_count : counts controls ≤ 1
   pub none_held : 0 < counts controls → held ≡ []
 
--- A poll is a turn, which puts data letters alone, and then puts of control letters. The control letters that the rank
+-- A poll is a turn, and then puts of control letters. The control letters that the rank
 -- took are handed over meanwhile, which changes nothing else of the rank.
 pub record HasPolled {C : Type 0} (apply : Applies C) (old new : Rank C) (before after : List Entry) (turn : Turn) : Type 0 where
   pub middle : List Entry
   pub turned : Turned apply old new before middle turn
-  pub data_alone : AllByRecursion (λ l. IsTrue (is_data l)) (letters_put turned.placed)
   pub gained : GainedControls (held_letters new) middle after

@@ -2,19 +2,23 @@
 //! Each law is the contract of a function that does nothing. The laws speak of logs alone, whatever carries the letters,
 //! and of any handler.
 //!
-//! A rank has an account of its own log. It begins with one, and its turns, its own letters, its Counts and the ends of
+//! A rank has an account of its own log. It begins with one, and its turns, its own letters, its polls and the ends of
 //! its phases keep it. Once all ranks have passed their last barrier, their accounts and quiet cuts make a complete run.
+//!
+//! What a barrier knows of rounds is that of its rank's log, while it agrees with that log.
 //!
 //! A rank learns from the Totals that it took at which round it left a barrier. That round is the same for all ranks, and
 //! gives each the place of the barrier's quiet cut in its own log.
-ghost use Rattle.std.specs.Prelude.{◌≡◌, ◌+◌, ◌<◌, ◌≤◌, ℕ, suc, pred, false, IsTrue, List, [], ◌∷◌, ◌++◌, drop, length, take, sum_by};
+ghost use Rattle.std.specs.Prelude.{◌≡◌, ◌+◌, ◌<◌, ◌≤◌, ℕ, suc, pred, false, IsTrue, List, [], ◌∷◌, ◌++◌, drop, length, option_map, slice_get, take, sum_by};
 ghost use Rattle.std.specs.List.{AllByRecursion};
 ghost use Rattle.list_facts.specs.Sublist.{IsSublist};
 ghost use Rattle.msg_codec.specs.declared.letter.Letter.{Letter};
+ghost use Rattle.ygm_route.specs.declared.scheme.Scheme.{Scheme};
+ghost use Rattle.ygm_route.specs.Layout.{Shape};
 ghost use Rattle.world_core.specs.declared.entry.Entry.{Entry};
 ghost use Rattle.world_core.specs.ControlRules.{is_counted};
-ghost use Rattle.world_core.specs.Counts.{before_count, counts};
-ghost use Rattle.world_core.specs.Local.{Local};
+ghost use Rattle.world_core.specs.Counts.{before_count, count_taken, counts, totals};
+ghost use Rattle.world_core.specs.Local.{Local, having_put, local_rank};
 ghost use Rattle.world_core.specs.Log.{letters_put, letters_taken};
 ghost use Rattle.world_core.specs.Modest.{IsModest};
 ghost use Rattle.world_core.specs.Pairs.{arrived, is_data, of_pair};
@@ -25,9 +29,10 @@ ghost use Rattle.world_core.specs.World.{Logs, local, log_of};
 ghost use Rattle.comm_rank.specs.declared.turn.Turn.{Turn};
 ghost use Rattle.comm_rank.specs.Agrees.{Agrees};
 ghost use Rattle.comm_rank.specs.Fold.{Applies, fold_from};
-ghost use Rattle.comm_rank.specs.Rank.{HasSent, IsSameRank, Rank, held_letters};
+ghost use Rattle.comm_rank.specs.Rank.{HasSent, IsSameRank, Rank, held_letters, local_of};
 ghost use Rattle.comm_rank.specs.Turns.{Turned};
 ghost use Rattle.term_barrier.specs.Account.{Account, IsUpToDate, RankHandler, handler_at, handler_of, with_more};
+ghost use Rattle.term_barrier.specs.Barriers.{AreItsRounds, BarrierAgrees, BarrierState, control_letters, fresh_barrier, sums_of};
 ghost use Rattle.term_barrier.specs.CompleteRun.{IsCompleteRun, OwnLetters, earlier};
 ghost use Rattle.term_barrier.specs.CountedPlace.{AreCountedPlaces, IsCountedPlace, MovesNone};
 ghost use Rattle.term_barrier.specs.Cuts.{AreQuietCuts, IsQuietCut, arrivals_of, phase_part, phase_start};
@@ -151,7 +156,7 @@ pub fn a_poll_keeps_the_account<H: Handler>()
 {}
 
 /// Each Count that a rank puts since it left its last barrier is at a counted place. There is none where the rank is in no
-/// counted barrier. Polls keep it, and so do turns that put data letters alone.
+/// counted barrier, and polls and turns keep it.
 pub fn each_count_of_a_barrier_is_at_a_counted_place<H: Handler>()
     ensures none { (handler : RankHandler H) (own : ℕ → List Letter) (begin : ℕ) (held : List Letter) (me : Local) →
         is_counted me ≡ false → AreCountedPlaces handler own begin (barrier_start me.here me.log) held me.log }
@@ -163,9 +168,7 @@ pub fn each_count_of_a_barrier_is_at_a_counted_place<H: Handler>()
         AreCountedPlaces (handler_of H.apply H.start new) (own phase) (phase_start cut phase) first (held_letters new) after }
     ensures turned { (own : ℕ → List Letter) (begin first : ℕ)
         (old new : Rank H) (before after : List Entry) (turn : Turn) →
-        IsUpToDate H.apply H.start old before → IsSameRank old new →
-        (turned : Turned H.apply old new before after turn) →
-        AllByRecursion (λ l. IsTrue (is_data l)) (letters_put turned.placed) →
+        IsUpToDate H.apply H.start old before → IsSameRank old new → Turned H.apply old new before after turn →
         AreCountedPlaces (handler_of H.apply H.start old) own begin first (held_letters old) before →
         AreCountedPlaces (handler_of H.apply H.start new) own begin first (held_letters new) after }
     ensures later { (handler : RankHandler H) (own : ℕ → List Letter) (begin first later : ℕ) (held : List Letter)
@@ -281,6 +284,53 @@ pub fn barriers_end_at_quiet_cuts()
     ensures order { (world : Logs) (barriers : ℕ) (rounds : ℕ → ℕ → ℕ) → IsSound world →
         HaveLeft world barriers rounds → (rank barrier : ℕ) → rank < world.layout.ranks → barrier < barriers →
         phase_start (left_cuts world rounds rank) barrier ≤ left_cuts world rounds rank barrier }
+{}
+
+/// A new barrier agrees with the empty log.
+pub fn a_new_barrier_agrees_with_the_empty_log()
+    ensures { (layout : Shape) (scheme : Scheme) (here rounds : ℕ) →
+        BarrierAgrees (fresh_barrier layout here rounds) [] (local_rank layout scheme here []) }
+{}
+
+/// A barrier stays in agreement with its log as the log gains entries that put neither Counts nor Totals: of a put of data
+/// letters, and of a turn. The control letters that the rank takes then are kept. It stays so
+/// too as letters that were kept are handed over, where its rounds are those of all letters handed to it.
+pub fn a_barrier_stays_in_agreement<C>()
+    ensures gained { (barrier : BarrierState) (kept : List Letter) (me : Local) (more : List Entry) →
+        counts more ≡ 0 → ((to : ℕ) → totals to more ≡ 0) → BarrierAgrees barrier kept me →
+        BarrierAgrees barrier (kept ++ control_letters more) (gained me more) }
+    ensures put { (barrier : BarrierState) (kept : List Letter) (me : Local) (to : ℕ) (letters : List Letter) →
+        AllByRecursion (λ l. IsTrue (is_data l)) letters → BarrierAgrees barrier kept me →
+        BarrierAgrees barrier kept (having_put me to letters) }
+    ensures turned { (apply : Applies C) (old new : Rank C) (before after : List Entry) (turn : Turn)
+        (barrier : BarrierState) (kept : List Letter) (turned : Turned apply old new before after turn) →
+        IsSameRank old new →
+        BarrierAgrees barrier kept (local_of old before) →
+        BarrierAgrees barrier (kept ++ control_letters turned.taken) (local_of new after) }
+    ensures handed { (old new : BarrierState) (letters kept : List Letter) (me : Local)
+        (agrees : BarrierAgrees old (letters ++ kept) me) → new.layout ≡ old.layout → new.here ≡ old.here →
+        AreItsRounds new (agrees.handed ++ letters) me.log → (new.inside ≡ false → is_counted me ≡ false) →
+        BarrierAgrees new kept me }
+{}
+
+/// Where a barrier agrees with a modest log and its rank keeps no control letter, it knows the rounds of the log: how many
+/// the rank knows, where the present barrier begins, how many it left, the sums of the last round, and, at rank 0, the sums
+/// in the Counts of the rounds that aren't over. Where a barrier begins after the last round that it knows, that round
+/// ended the barrier before.
+pub fn a_barrier_knows_the_rounds_of_its_log()
+    ensures known { (barrier : BarrierState) (me : Local) → IsModest me → BarrierAgrees barrier [] me →
+        barrier.known ≡ rounds_known me.here me.log }
+    ensures first { (barrier : BarrierState) (me : Local) → IsModest me → BarrierAgrees barrier [] me →
+        barrier.first ≡ barrier_start me.here me.log }
+    ensures left { (barrier : BarrierState) (me : Local) → IsModest me → BarrierAgrees barrier [] me →
+        barrier.left ≡ barriers_left me }
+    ensures last { (barrier : BarrierState) (me : Local) → IsModest me → BarrierAgrees barrier [] me →
+        0 < barrier.known → barrier.last ≡ sums_told me.here me.log (pred barrier.known) }
+    ensures gathered { (barrier : BarrierState) (me : Local) → IsModest me → BarrierAgrees barrier [] me →
+        me.here ≡ 0 → (from k : ℕ) → slice_get (barrier.gathered from) k
+        ≡ option_map sums_of (count_taken from (totals 0 me.log + k) me.log) }
+    ensures has_left { (barrier : BarrierState) (me : Local) (round : ℕ) → IsModest me → BarrierAgrees barrier [] me →
+        barrier.known ≡ suc round → barrier.first ≡ barrier.known → HasLeft me (pred barrier.left) round }
 {}
 
 /// The theorem of a barrier. Once any rank has left it, all is settled at its cut, where each log is served: the letters

@@ -47,6 +47,9 @@ fn the_laws_can_be_cited() {
     one_round_ends_each_barrier();
     a_rank_leaves_a_barrier_for_good();
     barriers_end_at_quiet_cuts();
+    a_new_barrier_agrees_with_the_empty_log();
+    a_barrier_stays_in_agreement::<u64>();
+    a_barrier_knows_the_rounds_of_its_log();
     all_is_settled_where_a_barrier_ended::<u64>();
     a_rank_alone_leaves_at_its_second_round();
 }

@@ -1,6 +1,5 @@
 -- A poll keeps the account of its rank and each counted place, and puts each Count at a counted place.
 use Rattle.std.proofs.Common.{◌≡◌, ℕ, ◌+◌, ◌<◌, ◌≤◌, false, List, [], ◌∷◌, ◌++◌, length, refl, sym, ap, ◌∙◌, subst, append_assoc, append-nil, inl, inr, arith}
-use Rattle.std.specs.Bool.{IsTrue}
 use Rattle.std.specs.List.{AllByRecursion}
 use Rattle.std.proofs.lemmas.Bool.{cases_lt}
 use Rattle.std.proofs.lemmas.List.{append_cancel_left}
@@ -11,14 +10,14 @@ use Rattle.msg_codec.specs.declared.letter.Letter.{Letter}
 use Rattle.world_core.specs.declared.entry.Entry.{Entry}
 use Rattle.world_core.specs.declared.entry.Entry.TheVariants.{Put, Took}
 use Rattle.world_core.specs.Counts.{before_count, counts, puts_count}
-use Rattle.world_core.specs.Log.{letters_put, letters_put_by, letters_taken}
+use Rattle.world_core.specs.Log.{IsTake, letters_put, letters_put_by, letters_taken}
 use Rattle.world_core.specs.Pairs.{arrived, is_data, of_pair}
 use Rattle.world_core.proofs.Counts.BeforeCount.{before_all, before_grows, before_part, before_stands, counts-append}
 use Rattle.world_core.proofs.Deeds.TwoKinds.{control_not_data, data_not_count}
 use Rattle.comm_rank.specs.declared.turn.Turn.{Turn}
 use Rattle.comm_rank.specs.Fold.{Applies, fold_from}
 use Rattle.comm_rank.specs.Rank.{IsSameRank, Rank, held_letters}
-use Rattle.comm_rank.specs.Turns.{IsTake, Turned}
+use Rattle.comm_rank.specs.Turns.{Turned}
 use Rattle.comm_rank.proofs.Running.TookBelow.{taken_append}
 use Rattle.term_barrier.specs.Account.{Account, IsUpToDate, RankHandler, handler_of}
 use Rattle.term_barrier.specs.CountedPlace.{AreCountedPlaces, IsCountedPlace, MovesNone}
@@ -46,31 +45,30 @@ controls_move_none here controls each = moves_none here controls (controls_put c
 
 -- ---- entries that put no Count
 
-no_counts : (log : List Entry) → AllByRecursion (λ l. is_count l ≡ false) (letters_put log) → counts log ≡ 0
+pub no_counts : (log : List Entry) → AllByRecursion (λ l. is_count l ≡ false) (letters_put log) → counts log ≡ 0
 no_counts [] none = refl
 no_counts (entry ∷ log) none =
     let first : puts_count entry ≡ false = none_any is_count (letters_put_by entry) (all_first _ (letters_put_by entry) (letters_put log) none) in
     rw first (no_counts log (all_second _ (letters_put_by entry) (letters_put log) none))
 
-takes_put_none : (taken : List Entry) → AllByRecursion IsTake taken → letters_put taken ≡ []
+pub takes_put_none : (taken : List Entry) → AllByRecursion IsTake taken → letters_put taken ≡ []
 takes_put_none [] takes = refl
 takes_put_none (Put to letters ∷ taken) takes = absurd takes.0
 takes_put_none (Took from letters ∷ taken) takes = takes_put_none taken takes.1
 
 -- ---- a turn
 
-turn_counts : {C : Type 0} (apply : Applies C) (old new : Rank C) (before after : List Entry) (turn : Turn) (turned : Turned apply old new before after turn) →
-    AllByRecursion (λ l. IsTrue (is_data l)) (letters_put turned.placed) → counts (turned.taken ++ turned.placed) ≡ 0
-turn_counts apply old new before after turn turned data_alone =
+pub turn_counts : {C : Type 0} (apply : Applies C) (old new : Rank C) (before after : List Entry) (turn : Turn) (turned : Turned apply old new before after turn) →
+    counts (turned.taken ++ turned.placed) ≡ 0
+turn_counts apply old new before after turn turned =
     let none_taken : counts turned.taken ≡ 0 = no_counts turned.taken (rw (takes_put_none turned.taken turned.gained.takes) tt) in
-    let none_placed : counts turned.placed ≡ 0 = no_counts turned.placed (all_weaker _ _ (letters_put turned.placed) data_not_count data_alone) in
+    let none_placed : counts turned.placed ≡ 0 = no_counts turned.placed (all_weaker _ _ (letters_put turned.placed) data_not_count turned.gained.data_alone) in
     omega (arith, counts-append turned.taken turned.placed, none_taken, none_placed)
 
 module _ {C : Type 0} (apply : Applies C) (start : C → C)
     (keeps : (c : C) (here ranks : ℕ) (l : Letter) → start (apply c here ranks l).0 ≡ start c)
     (old new : Rank C) (before after : List Entry) (turn : Turn)
-    (up : IsUpToDate apply start old before) (same : IsSameRank old new) (turned : Turned apply old new before after turn)
-    (data_alone : AllByRecursion (λ l. IsTrue (is_data l)) (letters_put turned.placed)) where
+    (up : IsUpToDate apply start old before) (same : IsSameRank old new) (turned : Turned apply old new before after turn) where
   abbrev gains : List Entry
   gains = turned.taken ++ turned.placed
 
@@ -79,7 +77,7 @@ module _ {C : Type 0} (apply : Applies C) (start : C → C)
 
   -- it puts no Count
   pub counts_turn : counts after ≡ counts before
-  counts_turn = omega (arith, ap counts log_is, counts-append before gains, turn_counts apply old new before after turn turned data_alone)
+  counts_turn = omega (arith, ap counts log_is, counts-append before gains, turn_counts apply old new before after turn turned)
 
   pub before_turn : (q : ℕ) → q < counts before → before_count q after ≡ before_count q before
   before_turn q put = ap (before_count q) log_is ∙ before_stands q before gains put
@@ -140,7 +138,7 @@ module _ {C : Type 0} (apply : Applies C) (start : C → C)
   -- ---- its Counts
 
   middle_counts : counts middle ≡ counts before
-  middle_counts = counts_turn apply start keeps old new before middle turn up same polled.turned polled.data_alone
+  middle_counts = counts_turn apply start keeps old new before middle turn up same polled.turned
 
   after_counts : counts after ≡ counts before + counts controls
   after_counts = ap counts polled.gained.log ∙ counts-append middle controls ∙ ap (λ n. n + counts controls) middle_counts
@@ -149,7 +147,7 @@ module _ {C : Type 0} (apply : Applies C) (start : C → C)
   stays : (q : ℕ) → q < counts before → before_count q after ≡ before_count q before
   stays q put =
       ap (before_count q) polled.gained.log ∙ before_stands q middle controls (omega (arith, put, middle_counts))
-      ∙ before_turn apply start keeps old new before middle turn up same polled.turned polled.data_alone q put
+      ∙ before_turn apply start keeps old new before middle turn up same polled.turned q put
 
   -- and a new one is at a counted place
   pub count_poll : (own : ℕ → ℕ → List Letter) (cut : ℕ → ℕ) (phase : ℕ) → Account (handler_of apply start old) own cut phase (held_letters old) before →

@@ -41,7 +41,7 @@ module _ (me : Local) (more : List Entry) where
       let sum = length-append (letters_taken me.log) (letters_taken more) in
       omega (arith, both, sum)
 
-  more_known : rounds_known me.here me.log ≤ rounds_known me.here (me.log ++ more)
+  pub more_known : rounds_known me.here me.log ≤ rounds_known me.here (me.log ++ more)
   unfolding rounds_known
   more_known =
       row_grows (λ j. is_some (total_taken me.here j me.log)) (λ j. is_some (total_taken me.here j (me.log ++ more))) _ _

@@ -29,7 +29,7 @@ next_grows : (b : Bool) (q first : ℕ) → first ≤ q → first ≤ cond b (su
 next_grows true q first le = omega (arith, le)
 next_grows false q first le = omega arith
 
-first_grows : (sums : ℕ → Sums) (q m : ℕ) → q ≤ m → first_round sums q ≤ first_round sums m
+pub first_grows : (sums : ℕ → Sums) (q m : ℕ) → q ≤ m → first_round sums q ≤ first_round sums m
 unfolding first_round
 first_grows sums q zero le = let at : q ≡ 0 = omega (arith, le) in rw at (omega arith)
 first_grows sums q (suc m) le = elim (cases_lt m q) [
@@ -39,7 +39,7 @@ first_grows sums q (suc m) le = elim (cases_lt m q) [
       (next_grows (ends_from (first_round sums m) sums m) m (first_round sums m) (first_within sums m))
 ]
 
-one_more : (sums : ℕ → Sums) (q : ℕ) → ends sums q ≡ true → ended_below sums (suc q) ≡ suc (ended_below sums q)
+pub one_more : (sums : ℕ → Sums) (q : ℕ) → ends sums q ≡ true → ended_below sums (suc q) ≡ suc (ended_below sums q)
 unfolding ended_below
 one_more sums q e = rw e (omega arith)
 

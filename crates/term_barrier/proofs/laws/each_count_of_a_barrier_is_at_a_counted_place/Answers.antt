@@ -13,5 +13,5 @@ pub returns-clause-later : goal.returns-clause-later
 returns-clause-later g c = places_later
 
 pub returns-clause-turned : goal.returns-clause-turned
-returns-clause-turned g c = λ own begin first old new before after turn up same turned data_alone.
-    places_turn g.H.Handler.apply g.H.Handler.start g.met.H.Handler.keeps_start old new before after turn up same turned data_alone own begin first
+returns-clause-turned g c = λ own begin first old new before after turn up same turned.
+    places_turn g.H.Handler.apply g.H.Handler.start g.met.H.Handler.keeps_start old new before after turn up same turned own begin first
