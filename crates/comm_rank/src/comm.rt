@@ -199,6 +199,7 @@ impl<H: Handler> Comm<H> {
     pub fn next_control(&mut self) -> Option<Control>
         ensures some { IfSome result (λ control. self.old ≡ record self.new { controls = letter_of_control control ∷ self.new.controls }) }
         ensures none { IsNone result → (self.old.controls ≡ []) × (self.new ≡ self.old) }
+        ensures agrees { (log : List Entry) → Agrees H.apply H.start self.old log → Agrees H.apply H.start self.new log }
     {
         self.controls.pop_front()
     }

@@ -1,13 +1,15 @@
 //! What the contracts add up to. Each law is the contract of a function that does nothing.
-ghost use Rattle.std.specs.Prelude.{◌≡◌, ◌≢◌, ◌<◌, ℕ, IsTrue, List, [], ◌∷◌, ◌++◌};
+ghost use Rattle.std.specs.Prelude.{◌≡◌, ◌≢◌, ◌<◌, ℕ, true, IsTrue, List, [], ◌∷◌, ◌++◌};
 ghost use Rattle.list_facts.specs.Prefix.{IsPrefix};
+ghost use Rattle.msg_codec.specs.Control.{is_count, is_total};
 ghost use Rattle.msg_codec.specs.declared.letter.Letter.{Letter};
 ghost use Rattle.world_core.specs.declared.entry.Entry.{Entry};
+ghost use Rattle.world_core.specs.declared.entry.Entry.TheVariants.{Put};
 ghost use Rattle.world_core.specs.Pairs.{arrived, for_rank, is_data};
 ghost use Rattle.world_core.specs.Sound.{IsSound};
 ghost use Rattle.world_core.specs.World.{Logs, log_of};
 ghost use Rattle.comm_rank.specs.Agrees.{Agrees, MayTurn, PutsData};
-ghost use Rattle.comm_rank.specs.Rank.{HasSent, Rank, ran_at, ran_from, sent_to};
+ghost use Rattle.comm_rank.specs.Rank.{HasSent, IsIdle, Rank, ran_at, ran_from, sent_to};
 ghost use Rattle.comm_rank.specs.Turns.{CutOff, Gained};
 
 use crate::Handler;
@@ -44,4 +46,12 @@ pub fn a_letter_that_is_sent_is_the_last_to_its_destination<H>()
 pub fn a_turn_puts_data_letters_alone<H>()
     ensures may_turn { (me : Rank H) (log : List Entry) → PutsData log → MayTurn me log }
     ensures after { (before after taken placed : List Entry) → Gained before after taken placed → PutsData before → PutsData after }
+{}
+
+/// A rank that puts a control letter still agrees with its log: it puts a Count only while it is idle.
+pub fn a_control_letter_that_is_put_keeps_agreement<H: Handler>()
+    ensures count { (me : Rank H) (log : List Entry) (to : ℕ) (l : Letter) → is_count l ≡ true → IsIdle me → Agrees H.apply H.start me log →
+        Agrees H.apply H.start me (log ++ Put to (l ∷ []) ∷ []) }
+    ensures total { (me : Rank H) (log : List Entry) (to : ℕ) (l : Letter) → is_total l ≡ true → Agrees H.apply H.start me log →
+        Agrees H.apply H.start me (log ++ Put to (l ∷ []) ∷ []) }
 {}

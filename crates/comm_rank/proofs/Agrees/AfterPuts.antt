@@ -1,7 +1,7 @@
 -- A rank still agrees with its log after it put some of what it holds.
 use Rattle.std.proofs.Common.{◌≡◌, ◌≢◌, ℕ, ◌+◌, ◌-◌, ◌<◌, ◌≤◌, Option, Result, Ok, Err, List, [], ◌∷◌, ◌++◌, length, take, refl, sym, ap, ◌∙◌, subst, append-nil, append_assoc, arith}
 use Rattle.std.specs.Bool.{IsTrue}
-use Rattle.std.specs.List.{AllByRecursion}
+use Rattle.std.specs.List.{AllByRecursion, filter}
 use Rattle.std.proofs.lemmas.Grind.{flat_map-append}
 use Rattle.std.specs.Result.{IfErr, IfOk}
 use Rattle.msg_codec.specs.declared.letter.Letter.{Letter}
@@ -17,14 +17,18 @@ use Rattle.world_core.specs.Post.{SamePost, PostState, local_at}
 use Rattle.world_core.specs.Rules.{IsHonest}
 use Rattle.list_facts.proofs.Elements.{all_append}
 use Rattle.world_core.proofs.Log.Appended.{letters_taken-put, batches_taken-put}
+use Rattle.world_core.proofs.Counts.StaysFree.{no_counts}
 use Rattle.world_core.proofs.Modest.AfterPut.{modest_puts}
+use Rattle.list_facts.specs.Prefix.{IsSuffix}
+use Rattle.msg_codec.specs.Control.{is_control}
 use Rattle.list_facts.specs.Sublist.{IsSublist}
-use Rattle.comm_rank.specs.Agrees.{Agrees, Belongs, MaySend, MayTurn, PutsData}
+use Rattle.comm_rank.specs.Agrees.{Agrees, Belongs, IsServed, MaySend, MayTurn, PutsData}
 use Rattle.comm_rank.specs.Fold.{Applies, fold_from, handed_from}
 use Rattle.comm_rank.specs.declared.fault.CommFault.{CommFault}
 use Rattle.comm_rank.specs.Moves.{HasPutAll, HasPutEach, MayPut, Moved, PutAllFailed, PutOut, PutsFailed}
 use Rattle.comm_rank.specs.Rank.{Rank, held_letters, local_of, ran_at, sent_to}
 use Rattle.comm_rank.specs.Turns.{FirstFull, Gained}
+use Rattle.comm_rank.proofs.Agrees.Served.{served_more}
 use Rattle.comm_rank.proofs.Agrees.Direct.{nothing_to_forward}
 
 -- ---- what a log took is unchanged when it gains puts
@@ -78,7 +82,7 @@ module _ {C : Type 0} (apply : Applies C) (start : C → C) (me : Rank C) (log :
 
     module _ (sent_unchanged : (to : ℕ) → sent_to new now to ≡ sent_to me log to)
         (count_unchanged : own_count me.here now + sent_number me.here (letters_of held) ≡ own_count me.here log + sent_number me.here (held_letters me))
-        (alone : (from to : ℕ) → from ≢ me.here → of_pair from to (letters_of held) ≡ []) where
+        (alone : (from to : ℕ) → from ≢ me.here → of_pair from to (letters_of held) ≡ []) (more : PutsData placed) where
       pub agrees_still : Agrees apply start new now
       agrees_still =
           let P : List Entry → Type 0 = λ l. IsModest (local_of me l) in
@@ -93,6 +97,8 @@ module _ {C : Type 0} (apply : Applies C) (start : C → C) (me : Rank C) (log :
                 let Q : List Letter → List Letter → Type 0 = λ ran sent. IsSublist (of_pair me.here to (handed_from apply me.here me.layout.ranks (start me.contents) ran)) sent in
                 subst (λ ran. Q ran (sent_to new now to)) (sym ran_unchanged) (subst (λ sent. Q (ran_at me log) sent) (sym (sent_unchanged to)) (agrees.given_is_sent to));
             modest = modest;
+            controls = subst (λ xs. IsSuffix me.controls (filter is_control xs)) (sym (ap letters_taken gained ∙ same_taken placed log puts)) agrees.controls;
+            served = subst (IsServed apply me.here me.layout.ranks (start me.contents)) (sym gained) (served_more apply me.here me.layout.ranks (start me.contents) log placed (no_counts placed more) agrees.served);
           }
 
 -- ---- from what puts did to what is held
@@ -134,7 +140,7 @@ module _ {C : Type 0} (apply : Applies C) (start : C → C) (me : Rank C) (old :
 
     agrees_after : Agrees apply start (record me { held = held }) (new.log me.here)
     agrees_after = agrees_still apply start me (old.log me.here) agrees direct held (new.log me.here) placed moved.log moved.puts moved.sent_unchanged moved.count_unchanged
-        (λ from to other. moved.none_more from to (own_alone apply start me (old.log me.here) agrees direct from to other))
+        (λ from to other. moved.none_more from to (own_alone apply start me (old.log me.here) agrees direct from to other)) moved.data_alone
 
     pub belongs_after : Belongs apply start (record me { held = held }) new
     belongs_after = record {

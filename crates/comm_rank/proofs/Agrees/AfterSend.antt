@@ -46,6 +46,8 @@ module _ {C : Type 0} (apply : Applies C) (start : C → C) (me : Rank C) (log :
             append_assoc (pair_put me.here to log) (of_pair me.here to (held_letters me)) (of_pair me.here to (l ∷ [])) ∙ ap (λ xs. pair_put me.here to log ++ xs) (sym (gains.pairs me.here to)) in
             subst (IsSublist _) longer (sublist_longer (of_pair me.here to (l ∷ [])) (agrees.given_is_sent to));
         modest = agrees.modest;
+        controls = agrees.controls;
+        served = agrees.served;
       }
 
   pub agrees_unchanged : held ≡ me.held → count ≡ me.sent_count → Agrees apply start (record me { sent_count = count; held = held }) log

@@ -24,9 +24,10 @@ use Rattle.world_core.proofs.Counts.StaysFree.{free_took, stays_free}
 use Rattle.world_core.proofs.Deeds.Honest.{honest_more}
 use Rattle.world_core.proofs.Pairs.Appended.{pair_put-took}
 use Rattle.world_core.proofs.Pairs.Numbers.{own_count-took, run_number-is, sent_number-is}
-use Rattle.world_core.proofs.Log.Appended.{batches_put-took, batches_taken-took, letters_put-took}
+use Rattle.world_core.proofs.Log.Appended.{batches_put-took, batches_taken-took, letters_taken-took}
+use Rattle.list_facts.specs.Prefix.{IsSuffix}
 use Rattle.list_facts.specs.Sublist.{IsSublist}
-use Rattle.comm_rank.specs.Agrees.{Agrees, Belongs, MayTurn}
+use Rattle.comm_rank.specs.Agrees.{Agrees, Belongs, IsServed, MayTurn}
 use Rattle.comm_rank.specs.Fold.{Applies, fold_from, handed_from}
 use Rattle.comm_rank.specs.Held.{Gains}
 use Rattle.comm_rank.specs.Rank.{Rank, IsSameRank, handed, held_letters, local_of, ran_at, sent_to}
@@ -35,6 +36,7 @@ use Rattle.comm_rank.specs.declared.fault.CommFault.TheVariants.{NoMemory}
 use Rattle.comm_rank.specs.Running.{CutFrom, HasRunAll, IsControl, IsFor, NotLookedAt, StuckIn, TookFrom, WasCutFrom, begins_with_control, for_handlers}
 use Rattle.comm_rank.specs.Turns.{Advanced, LookedAt}
 use Rattle.list_facts.proofs.Sublist.{sublist_append}
+use Rattle.comm_rank.proofs.Agrees.Served.{served_more, suffix_longer}
 use Rattle.comm_rank.proofs.Agrees.Arrived.{Brings, arrived-took, brings, for_all, forward_same, is_read, its_controls, none_of_others, own_all, ran_all, ran_is}
 use Rattle.comm_rank.proofs.Fold.Appended.{fold-append, handed-append, start_fold}
 use Rattle.comm_rank.proofs.Running.RunAll.{rest_for}
@@ -248,6 +250,15 @@ module _ {C : Type 0} (apply : Applies C) (old new : Rank C) (log after : List E
               let Q : List Letter → Type 0 = λ xs. IsSublist (of_pair here to (handed_from apply here n (start old.contents) (ran_at old log)) ++ of_pair here to given) xs in
               subst P (sym gave) (subst Q (sym (adv.sent to)) (sublist_append (of_pair here to given) (agrees.given_is_sent to)));
           modest = subst IsModest (local_is old new after same) modest;
+          controls =
+              let all : filter is_control (letters_taken after) ≡ filter is_control (letters_taken log) ++ filter is_control batch =
+              ap (λ xs. filter is_control (letters_taken xs)) gained ∙ ap (filter is_control) (letters_taken-took log from batch) ∙ filter-append is_control (letters_taken log) batch in
+              subst (λ xs. IsSuffix xs (filter is_control (letters_taken after))) (sym kept)
+              (subst (IsSuffix (old.controls ++ filter is_control batch)) (sym all) (suffix_longer old.controls (filter is_control (letters_taken log)) (filter is_control batch) agrees.controls));
+          served =
+              let now : IsServed apply here n (start old.contents) after = subst (IsServed apply here n (start old.contents)) (sym gained) (served_more apply here n (start old.contents) log (Took from batch ∷ []) refl agrees.served) in
+              subst (λ c. IsServed apply new.here new.layout.ranks c after) (sym started)
+              (subst (λ m. IsServed apply new.here m (start old.contents) after) (sym ranks) (subst (λ h. IsServed apply h n (start old.contents) after) (sym same.here) now));
         }
 
 -- there was no memory to keep a control letter, and nothing was taken

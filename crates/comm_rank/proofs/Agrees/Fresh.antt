@@ -9,6 +9,7 @@ use Rattle.world_core.specs.Counts.{count_taken}
 use Rattle.world_core.specs.Modest.{AreInTurn, IsModest}
 use Rattle.world_core.specs.Pairs.{of_pair, sent_number}
 use Rattle.world_core.proofs.Pairs.Numbers.{run_number-nil, sent_number-nil}
+use Rattle.list_facts.proofs.Prefix.{suffix_refl}
 use Rattle.list_facts.proofs.Sublist.{sublist_nil}
 use Rattle.list_facts.proofs.Sums.{sum_upto-zero}
 use Rattle.comm_rank.specs.Agrees.{Agrees}
@@ -45,4 +46,6 @@ agrees_fresh apply start layout scheme here most contents direct fresh =
       contents = sym fresh;
       given_is_sent = λ to. sublist_nil _;
       modest = modest;
+      controls = suffix_refl [];
+      served = λ q to some. absurd (omega (arith, some));
     }
