@@ -24,9 +24,12 @@ pub record GainedControls (held : List Letter) (before after : List Entry) : Typ
   pub one_count : counts controls ≤ 1
   pub none_held : 0 < counts controls → held ≡ []
 
--- A poll is a turn, and then puts of control letters. The control letters that the rank
--- took are handed over meanwhile, which changes nothing else of the rank.
+-- A poll is a turn, after which all control letters that the rank took are handed over, and puts of control letters. The
+-- turn leaves this rank and this log, and of the rank the rest of the poll changes nothing but that it keeps no control
+-- letter.
 pub record HasPolled {C : Type 0} (apply : Applies C) (old new : Rank C) (before after : List Entry) (turn : Turn) : Type 0 where
-  pub middle : List Entry
-  pub turned : Turned apply old new before middle turn
-  pub gained : GainedControls (held_letters new) middle after
+  pub rank : Rank C
+  pub log : List Entry
+  pub turned : Turned apply old rank before log turn
+  pub gained : GainedControls (held_letters new) log after
+  pub handed_over : new ≡ record rank { controls = [] }

@@ -22,7 +22,7 @@ use Rattle.comm_rank.proofs.Running.TookBelow.{taken_append}
 use Rattle.term_barrier.specs.Account.{Account, IsUpToDate, RankHandler, handler_of}
 use Rattle.term_barrier.specs.CountedPlace.{AreCountedPlaces, IsCountedPlace, MovesNone}
 use Rattle.term_barrier.specs.Cuts.{phase_start}
-use Rattle.term_barrier.specs.Polls.{HasPolled, PutsControl}
+use Rattle.term_barrier.specs.Polls.{GainedControls, HasPolled, PutsControl}
 use Rattle.term_barrier.proofs.Account.Turned.{account_turn, counted_turn, up_to_date_turn}
 use Rattle.term_barrier.proofs.CountedPlace.Put.{account_unmoved, counted_put, counted_unmoved, moves_none}
 
@@ -89,71 +89,68 @@ module _ {C : Type 0} (apply : Applies C) (start : C → C)
       subst (λ es. IsCountedPlace (handler_of apply start new) own begin (length es) (held_letters new) after) (sym (before_turn q was))
       (counted_turn apply start keeps old new before after turn up same turned own begin (length (before_count q before)) (places q since was))
 
--- ---- a poll
+-- ---- a turn, and then puts of control letters
 
 module _ {C : Type 0} (apply : Applies C) (start : C → C)
     (keeps : (c : C) (here ranks : ℕ) (l : Letter) → start (apply c here ranks l).0 ≡ start c)
-    (old new : Rank C) (before after : List Entry) (turn : Turn)
-    (up : IsUpToDate apply start old before) (same : IsSameRank old new) (polled : HasPolled apply old new before after turn) where
+    (old new : Rank C) (before middle after : List Entry) (turn : Turn)
+    (up : IsUpToDate apply start old before) (same : IsSameRank old new) (turned : Turned apply old new before middle turn) (gained : GainedControls (held_letters new) middle after) where
   abbrev handler : RankHandler C
   handler = handler_of apply start new
 
-  abbrev middle : List Entry
-  middle = polled.middle
-
   abbrev controls : List Entry
-  controls = polled.gained.controls
+  controls = gained.controls
 
   moves : MovesNone new.here controls
-  moves = controls_move_none new.here controls polled.gained.each
+  moves = controls_move_none new.here controls gained.each
 
-  pub up_to_date_poll : IsUpToDate apply start new after
-  up_to_date_poll =
-      let turned = up_to_date_turn apply start keeps old new before middle turn up same polled.turned in
+  up_to_date_then : IsUpToDate apply start new after
+  up_to_date_then =
+      let up_middle = up_to_date_turn apply start keeps old new before middle turn up same turned in
       let arrived_is : arrived new.here after ≡ arrived new.here middle =
-      ap (arrived new.here) polled.gained.log ∙ taken_append new.here middle controls
+      ap (arrived new.here) gained.log ∙ taken_append new.here middle controls
       ∙ ap (λ ls. arrived new.here middle ++ ls) moves.takes ∙ append-nil (arrived new.here middle) in
       record {
-        nothing_waits = turned.nothing_waits;
-        contents = turned.contents ∙ ap (fold_from apply new.here new.layout.ranks (start new.contents)) (sym arrived_is);
+        nothing_waits = up_middle.nothing_waits;
+        contents = up_middle.contents ∙ ap (fold_from apply new.here new.layout.ranks (start new.contents)) (sym arrived_is);
       }
 
   account_middle : (own : ℕ → ℕ → List Letter) (cut : ℕ → ℕ) (phase : ℕ) → Account (handler_of apply start old) own cut phase (held_letters old) before →
       Account handler own cut phase (held_letters new) middle
-  account_middle own cut phase account = account_turn apply start keeps old new before middle turn up same polled.turned own cut phase account
+  account_middle own cut phase account = account_turn apply start keeps old new before middle turn up same turned own cut phase account
 
-  pub account_poll : (own : ℕ → ℕ → List Letter) (cut : ℕ → ℕ) (phase : ℕ) → Account (handler_of apply start old) own cut phase (held_letters old) before →
+  account_then : (own : ℕ → ℕ → List Letter) (cut : ℕ → ℕ) (phase : ℕ) → Account (handler_of apply start old) own cut phase (held_letters old) before →
       Account handler own cut phase (held_letters new) after
-  account_poll own cut phase account =
-      subst (Account handler own cut phase (held_letters new)) (sym polled.gained.log)
+  account_then own cut phase account =
+      subst (Account handler own cut phase (held_letters new)) (sym gained.log)
       (account_unmoved handler (held_letters new) middle controls moves own cut phase (account_middle own cut phase account))
 
-  pub counted_poll : (own : ℕ → List Letter) (begin place : ℕ) → IsCountedPlace (handler_of apply start old) own begin place (held_letters old) before →
+  counted_then : (own : ℕ → List Letter) (begin place : ℕ) → IsCountedPlace (handler_of apply start old) own begin place (held_letters old) before →
       IsCountedPlace handler own begin place (held_letters new) after
-  counted_poll own begin place counted =
-      subst (IsCountedPlace handler own begin place (held_letters new)) (sym polled.gained.log)
+  counted_then own begin place counted =
+      subst (IsCountedPlace handler own begin place (held_letters new)) (sym gained.log)
       (counted_unmoved handler (held_letters new) middle controls moves own begin place
-      (counted_turn apply start keeps old new before middle turn up same polled.turned own begin place counted))
+      (counted_turn apply start keeps old new before middle turn up same turned own begin place counted))
 
   -- ---- its Counts
 
   middle_counts : counts middle ≡ counts before
-  middle_counts = counts_turn apply start keeps old new before middle turn up same polled.turned
+  middle_counts = counts_turn apply start keeps old new before middle turn up same turned
 
   after_counts : counts after ≡ counts before + counts controls
-  after_counts = ap counts polled.gained.log ∙ counts-append middle controls ∙ ap (λ n. n + counts controls) middle_counts
+  after_counts = ap counts gained.log ∙ counts-append middle controls ∙ ap (λ n. n + counts controls) middle_counts
 
   -- the Counts of before are where they were
   stays : (q : ℕ) → q < counts before → before_count q after ≡ before_count q before
   stays q put =
-      ap (before_count q) polled.gained.log ∙ before_stands q middle controls (omega (arith, put, middle_counts))
-      ∙ before_turn apply start keeps old new before middle turn up same polled.turned q put
+      ap (before_count q) gained.log ∙ before_stands q middle controls (omega (arith, put, middle_counts))
+      ∙ before_turn apply start keeps old new before middle turn up same turned q put
 
   -- and a new one is at a counted place
-  pub count_poll : (own : ℕ → ℕ → List Letter) (cut : ℕ → ℕ) (phase : ℕ) → Account (handler_of apply start old) own cut phase (held_letters old) before →
+  count_then : (own : ℕ → ℕ → List Letter) (cut : ℕ → ℕ) (phase : ℕ) → Account (handler_of apply start old) own cut phase (held_letters old) before →
       (q : ℕ) → counts before ≤ q → q < counts after →
       IsCountedPlace handler (own phase) (phase_start cut phase) (length (before_count q after)) (held_letters new) after
-  count_poll own cut phase account q least put =
+  count_then own cut phase account q least put =
       let held = held_letters new in
       let whole : before_count q middle ≡ middle = before_all q middle (omega (arith, least, middle_counts)) in
       let first = before_grows q middle controls in
@@ -161,24 +158,69 @@ module _ {C : Type 0} (apply : Applies C) (start : C → C)
       let place : before_count q (middle ++ controls) ≡ middle ++ first.rest = sym (ap (λ es. es ++ first.rest) (sym whole) ∙ first.joined) in
       let log_is : (middle ++ first.rest) ++ later.rest ≡ middle ++ controls = ap (λ es. es ++ later.rest) (sym place) ∙ later.joined in
       let parts : first.rest ++ later.rest ≡ controls = append_cancel_left middle _ _ (sym (append_assoc middle first.rest later.rest) ∙ log_is) in
-      let each : AllByRecursion PutsControl (first.rest ++ later.rest) = subst (AllByRecursion PutsControl) (sym parts) polled.gained.each in
-      let none : held ≡ [] = polled.gained.none_held (omega (arith, least, put, after_counts)) in
+      let each : AllByRecursion PutsControl (first.rest ++ later.rest) = subst (AllByRecursion PutsControl) (sym parts) gained.each in
+      let none : held ≡ [] = gained.none_held (omega (arith, least, put, after_counts)) in
       let account_first : Account handler own cut phase held (middle ++ first.rest) =
       account_unmoved handler held middle first.rest (controls_move_none new.here first.rest (all_first PutsControl first.rest later.rest each))
       own cut phase (account_middle own cut phase account) in
       let counted : IsCountedPlace handler (own phase) (phase_start cut phase) (length (middle ++ first.rest)) held ((middle ++ first.rest) ++ later.rest) =
       counted_put handler held (middle ++ first.rest) later.rest (controls_move_none new.here later.rest (all_second PutsControl first.rest later.rest each))
       own cut phase (λ to. ap (of_pair new.here to) none) account_first in
-      subst (λ log. IsCountedPlace handler (own phase) (phase_start cut phase) (length (before_count q log)) held log) (sym polled.gained.log)
+      subst (λ log. IsCountedPlace handler (own phase) (phase_start cut phase) (length (before_count q log)) held log) (sym gained.log)
       (subst (λ es. IsCountedPlace handler (own phase) (phase_start cut phase) (length es) held (middle ++ controls)) (sym place)
       (subst (IsCountedPlace handler (own phase) (phase_start cut phase) (length (middle ++ first.rest)) held) log_is counted))
 
-  pub places_poll : (own : ℕ → ℕ → List Letter) (cut : ℕ → ℕ) (phase first : ℕ) → Account (handler_of apply start old) own cut phase (held_letters old) before →
+  places_then : (own : ℕ → ℕ → List Letter) (cut : ℕ → ℕ) (phase first : ℕ) → Account (handler_of apply start old) own cut phase (held_letters old) before →
       AreCountedPlaces (handler_of apply start old) (own phase) (phase_start cut phase) first (held_letters old) before →
       AreCountedPlaces handler (own phase) (phase_start cut phase) first (held_letters new) after
-  places_poll own cut phase first account places q since put = elim (cases_lt q (counts before)) [
+  places_then own cut phase first account places q since put = elim (cases_lt q (counts before)) [
     | inl earlier ↦
         subst (λ es. IsCountedPlace handler (own phase) (phase_start cut phase) (length es) (held_letters new) after) (sym (stays q earlier))
-        (counted_poll (own phase) (phase_start cut phase) (length (before_count q before)) (places q since earlier))
-    | inr least ↦ count_poll own cut phase account q least put
+        (counted_then (own phase) (phase_start cut phase) (length (before_count q before)) (places q since earlier))
+    | inr least ↦ count_then own cut phase account q least put
   ]
+
+-- ---- a poll
+
+module _ {C : Type 0} (apply : Applies C) (start : C → C)
+    (keeps : (c : C) (here ranks : ℕ) (l : Letter) → start (apply c here ranks l).0 ≡ start c)
+    (old new : Rank C) (before after : List Entry) (turn : Turn)
+    (up : IsUpToDate apply start old before) (same : IsSameRank old new) (polled : HasPolled apply old new before after turn) where
+  -- the rank after its turn
+  same_rank : IsSameRank old polled.rank
+  same_rank = let s = subst (IsSameRank old) polled.handed_over same in record { layout = s.layout; scheme = s.scheme; here = s.here; most = s.most }
+
+  gained_rank : GainedControls (held_letters polled.rank) polled.log after
+  gained_rank = subst (λ me. GainedControls (held_letters me) polled.log after) polled.handed_over polled.gained
+
+  pub up_to_date_poll : IsUpToDate apply start new after
+  up_to_date_poll =
+      let u = up_to_date_then apply start keeps old polled.rank before polled.log after turn up same_rank polled.turned gained_rank in
+      subst (λ me. IsUpToDate apply start me after) (sym polled.handed_over) (record { nothing_waits = u.nothing_waits; contents = u.contents })
+
+  pub account_poll : (own : ℕ → ℕ → List Letter) (cut : ℕ → ℕ) (phase : ℕ) → Account (handler_of apply start old) own cut phase (held_letters old) before →
+      Account (handler_of apply start new) own cut phase (held_letters new) after
+  account_poll own cut phase account =
+      subst (λ me. Account (handler_of apply start me) own cut phase (held_letters me) after) (sym polled.handed_over)
+      (account_then apply start keeps old polled.rank before polled.log after turn up same_rank polled.turned gained_rank own cut phase account)
+
+  pub counted_poll : (own : ℕ → List Letter) (begin place : ℕ) → IsCountedPlace (handler_of apply start old) own begin place (held_letters old) before →
+      IsCountedPlace (handler_of apply start new) own begin place (held_letters new) after
+  counted_poll own begin place counted =
+      subst (λ me. IsCountedPlace (handler_of apply start me) own begin place (held_letters me) after) (sym polled.handed_over)
+      (counted_then apply start keeps old polled.rank before polled.log after turn up same_rank polled.turned gained_rank own begin place counted)
+
+  pub count_poll : (own : ℕ → ℕ → List Letter) (cut : ℕ → ℕ) (phase : ℕ) → Account (handler_of apply start old) own cut phase (held_letters old) before →
+      (q : ℕ) → counts before ≤ q → q < counts after →
+      IsCountedPlace (handler_of apply start new) (own phase) (phase_start cut phase) (length (before_count q after)) (held_letters new) after
+  count_poll own cut phase account q least put =
+      subst (λ me. IsCountedPlace (handler_of apply start me) (own phase) (phase_start cut phase) (length (before_count q after)) (held_letters me) after)
+      (sym polled.handed_over)
+      (count_then apply start keeps old polled.rank before polled.log after turn up same_rank polled.turned gained_rank own cut phase account q least put)
+
+  pub places_poll : (own : ℕ → ℕ → List Letter) (cut : ℕ → ℕ) (phase first : ℕ) → Account (handler_of apply start old) own cut phase (held_letters old) before →
+      AreCountedPlaces (handler_of apply start old) (own phase) (phase_start cut phase) first (held_letters old) before →
+      AreCountedPlaces (handler_of apply start new) (own phase) (phase_start cut phase) first (held_letters new) after
+  places_poll own cut phase first account places =
+      subst (λ me. AreCountedPlaces (handler_of apply start me) (own phase) (phase_start cut phase) first (held_letters me) after) (sym polled.handed_over)
+      (places_then apply start keeps old polled.rank before polled.log after turn up same_rank polled.turned gained_rank own cut phase first account places)
