@@ -195,7 +195,8 @@ impl<H: Handler> Comm<H> {
         self.ran
     }
 
-    /// The control letter that it took first of those that weren't handed over yet. Without one, it changes nothing.
+    /// Hands over a control letter: the one that turns took first of those that weren't handed over yet. Without one, it
+    /// changes nothing. It takes no memory, and a stopped rank hands them over too.
     pub fn next_control(&mut self) -> Option<Control>
         ensures some { IfSome result (λ control. self.old ≡ record self.new { controls = letter_of_control control ∷ self.new.controls }) }
         ensures none { IsNone result → (self.old.controls ≡ []) × (self.new ≡ self.old) }
@@ -204,7 +205,8 @@ impl<H: Handler> Comm<H> {
         self.controls.pop_front()
     }
 
-    /// Whether it has nothing to do for now: it holds no letter, and none waits to run.
+    /// Whether it has nothing to put and nothing to run: it holds no letter, of its own or to forward, and none waits to
+    /// run. Then it may put a Count.
     pub fn is_idle(&self) -> bool
         ensures idle { result ≡ true → IsIdle self.now }
         ensures busy { IsIdle self.now → result ≡ true }
@@ -212,7 +214,8 @@ impl<H: Handler> Comm<H> {
         self.held.is_empty() && self.waiting.count() == 0
     }
 
-    /// Raises the stop, so that each rank fails with `Stopped` at its next turn. This rank is stopped at once.
+    /// Raises the stop, as a turn that failed does, so that the turns of the other ranks return `Stopped`. This rank is
+    /// stopped at once. Every log is unchanged.
     pub fn halt<P: Post>(&mut self, post: &mut P)
         requires serves { IsTrue ((P.state post.old).serves self.old.here) }
         ensures stopped { self.new ≡ halted self.old }

@@ -1,5 +1,6 @@
-ghost use Rattle.std.specs.Prelude.{◌≡◌, ◌<◌, ◌≤◌, ◌+◌, ◌++◌, List, [], ◌∷◌, false, length, IfOk, OnOk, OnErr};
+ghost use Rattle.std.specs.Prelude.{◌≡◌, ◌<◌, ◌≤◌, ◌+◌, ◌++◌, List, [], ◌∷◌, false, length, IfOk, IsTrue, OnOk, OnErr};
 ghost use Rattle.world_core.specs.declared.entry.Entry.{Entry};
+ghost use Rattle.world_core.specs.Plain.{state_of};
 ghost use Rattle.world_core.specs.Post.{SamePost};
 ghost use Rattle.ygm_route.specs.declared.scheme.Scheme.TheVariants.{Direct};
 ghost use Rattle.comm_rank.specs.Agrees.{Agrees, Belongs, PutsData};
@@ -390,6 +391,35 @@ fn asked_too_much(rt: &impl Abort, ranks: &mut Ranks<Echo>) -> Result<(), Fail> 
 #[test]
 fn a_rank_whose_handler_sends_too_many_stops_all(rt: HostRuntime) -> Result<(), Fail> {
     asked_too_much(&rt, &mut ranks_of(rt.alloc(), 2, 4, TWO_LETTERS)?)
+}
+
+// A rank that sends is no longer idle, and one that halts has raised the stop.
+fn sends_and_halts(
+    rt: &impl Abort,
+    comm: &mut Comm<Echo>,
+    links: &mut PlainLinks,
+) -> Result<(), Fail>
+    requires { IsTrue ((state_of links.old).serves comm.old.here) }
+{
+    let before = (comm.is_idle(), comm.next_control().is_none());
+    send_by(comm.alloc, comm, 0, NOTE, b'a')??;
+    let here = comm.here();
+    comm.halt(links);
+    same(
+        rt,
+        (before, comm.is_idle(), comm.is_stopped()),
+        ((true, true), false, true),
+    );
+    same(rt, links.stopped(here), true);
+    Ok(())
+}
+
+#[test]
+fn a_rank_halts_by_itself(rt: HostRuntime) -> Result<(), Fail> {
+    let layout = Layout::new(1, 1)?;
+    let mut comm = rank_of(rt.alloc(), layout, 0, Limits::FULL)?;
+    let mut links = PlainLinks::new(rt.alloc(), layout, Scheme::Direct, 1, Limits::FULL)?;
+    sends_and_halts(&rt, &mut comm, &mut links)
 }
 
 fn two_sent(alloc: Global, out: &mut Outgoing) -> Result<(), Fail>

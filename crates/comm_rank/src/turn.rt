@@ -79,9 +79,13 @@ impl<H: Handler> Comm<H> {
     /// `next_control`. Then it puts what the rank holds, destination by destination, until nothing remains or the link
     /// is full.
     ///
-    /// Where a rank has raised the stop, it returns `Stopped` and does nothing. Where a letter can't run or be put,
-    /// for lack of memory or because the handler gave a letter too many, this rank raises the stop, and the letters
-    /// that it took and that haven't run wait for ever. After either fault the rank is stopped.
+    /// A rank that put a Count and took no letter for itself since may take a turn only while it holds no letter of its
+    /// own.
+    ///
+    /// Where a rank has raised the stop, it returns `Stopped` and does nothing. Where a letter can't be taken, run or
+    /// put, for lack of memory or because the handler gave a letter too many, this rank raises the stop, and the letters
+    /// that it took and that haven't run wait for ever. Control letters that it took still wait for `next_control`.
+    /// After either fault the rank is stopped.
     pub fn turn<P: Post>(&mut self, post: &mut P) -> Result<Turn, CommFault>
         requires going { self.old.stopped ≡ false }
         requires belongs { Belongs H.apply H.start self.old (P.state post.old) }

@@ -1,6 +1,6 @@
 -- A rank still agrees with its log after it handed over a control letter, or put one.
-use Rattle.std.proofs.Common.{◌≡◌, ℕ, ◌+◌, ◌-◌, ◌<◌, Bool, true, false, nat_eq, ◌&&◌, Option, Some, None, map, List, [], ◌∷◌, ◌++◌, length, take, refl, sym, ap, ◌∙◌, subst, append-nil, inl, inr, arith}
-use Rattle.std.specs.List.{filter, list_any}
+use Rattle.std.proofs.Common.{◌≡◌, ℕ, ◌-◌, true, false, Option, Some, None, map, List, [], ◌∷◌, ◌++◌, length, take, refl, sym, ap, ◌∙◌, subst, append-nil, inl, inr, arith}
+use Rattle.std.specs.List.{filter}
 use Rattle.std.specs.Option.{option_to_list}
 use Rattle.std.proofs.lemmas.Bool.{cases_lt, false_from_ne_true, false≢true, or_right}
 use Rattle.list_facts.specs.Prefix.{IsSuffix}
@@ -10,11 +10,10 @@ use Rattle.msg_codec.specs.declared.control.Control.{Control}
 use Rattle.msg_codec.specs.declared.letter.Letter.{Letter}
 use Rattle.world_core.specs.declared.entry.Entry.{Entry}
 use Rattle.world_core.specs.declared.entry.Entry.TheVariants.{Put}
-use Rattle.world_core.specs.Counts.{before_count, counts, puts_count}
+use Rattle.world_core.specs.Counts.{counts, puts_count}
 use Rattle.world_core.specs.Local.{Local, having_put, to_forward}
-use Rattle.world_core.specs.Log.{letters_of, letters_taken}
-use Rattle.world_core.specs.Modest.{IsModest}
-use Rattle.world_core.specs.Pairs.{arrived, for_rank, is_data, of_pair, own_count, pair_put, sent_number}
+use Rattle.world_core.specs.Log.{letters_taken}
+use Rattle.world_core.specs.Pairs.{for_rank, is_data, of_pair, pair_put, sent_number}
 use Rattle.world_core.proofs.Counts.AfterPut.{counts-one}
 use Rattle.world_core.proofs.Counts.BeforeCount.{before_stands, before_this}
 use Rattle.world_core.proofs.Deeds.TwoKinds.{control_not_data}

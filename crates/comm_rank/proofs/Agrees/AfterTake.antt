@@ -14,9 +14,9 @@ use Rattle.world_core.specs.declared.entry.Entry.{Entry}
 use Rattle.world_core.specs.declared.entry.Entry.TheVariants.{Put, Took}
 use Rattle.world_core.specs.Limits.{most_arrived}
 use Rattle.world_core.specs.Local.{Local, to_forward}
-use Rattle.world_core.specs.Log.{batches_put, batches_taken, letters_put, letters_taken}
+use Rattle.world_core.specs.Log.{batches_put, batches_taken, letters_taken}
 use Rattle.world_core.specs.Modest.{IsModest}
-use Rattle.world_core.specs.Pairs.{arrived, for_rank, is_data, is_of_pair, of_pair, of_sender, own_count, pair_put, sent_number}
+use Rattle.world_core.specs.Pairs.{arrived, for_rank, is_of_pair, of_pair, of_sender, own_count, pair_put, sent_number}
 use Rattle.world_core.specs.Post.{MissesRise, SamePost, PostState, TookBatch, link_in, local_at}
 use Rattle.world_core.specs.Rules.{IsHonest}
 use Rattle.world_core.specs.ControlRules.{is_free}

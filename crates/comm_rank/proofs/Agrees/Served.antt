@@ -1,10 +1,10 @@
 -- The control letters that a rank hands over, and what it had put before each of its Counts.
-use Rattle.std.proofs.Common.{◌≡◌, ℕ, ◌+◌, ◌<◌, List, [], ◌∷◌, ◌++◌, sym, ap, ◌∙◌, subst, append_assoc, arith}
+use Rattle.std.proofs.Common.{◌≡◌, ℕ, ◌<◌, List, [], ◌∷◌, ◌++◌, sym, ap, ◌∙◌, subst, append_assoc, arith}
 use Rattle.list_facts.specs.Prefix.{IsSuffix}
 use Rattle.list_facts.specs.Sublist.{IsSublist}
 use Rattle.msg_codec.specs.declared.letter.Letter.{Letter}
 use Rattle.world_core.specs.declared.entry.Entry.{Entry}
-use Rattle.world_core.specs.Counts.{before_count, counts}
+use Rattle.world_core.specs.Counts.{counts}
 use Rattle.world_core.specs.Pairs.{arrived, of_pair, pair_put}
 use Rattle.world_core.proofs.Counts.BeforeCount.{before_stands, counts-append}
 use Rattle.comm_rank.specs.Agrees.{IsServed}

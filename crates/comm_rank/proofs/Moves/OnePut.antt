@@ -1,7 +1,7 @@
 -- A put of an own letter that goes straight to its destination.
-use Rattle.std.proofs.Common.{◌≡◌, ◌≢◌, ℕ, ◌+◌, ◌<◌, Bool, true, false, not, ◌||◌, ◌&&◌, nat_eq, nat_lt, lt-ltb, ltb-true, le-ltb, eq-eqb, ne_eqb, None, Err, List, [], ◌∷◌, ◌++◌, length, set, refl, sym, ap, ◌∙◌, subst, append-nil, append_assoc, arith, inl, inr}
+use Rattle.std.proofs.Common.{◌≡◌, ◌≢◌, ℕ, ◌+◌, ◌<◌, Bool, true, false, not, ◌||◌, ◌&&◌, nat_eq, nat_lt, lt-ltb, eq-eqb, None, Err, List, [], ◌∷◌, ◌++◌, length, set, refl, sym, ap, ◌∙◌, subst, append-nil, append_assoc, arith, inl, inr}
 use Rattle.std.specs.Bool.{IsTrue}
-use Rattle.std.specs.List.{AllByRecursion, list_any}
+use Rattle.std.specs.List.{AllByRecursion}
 use Rattle.std.proofs.lemmas.Bool.{cases_eq}
 use Rattle.std.proofs.lemmas.List.{set-set, set-get_or, nil_from_length}
 use Rattle.msg_codec.specs.Control.{is_count, is_total}
@@ -11,11 +11,11 @@ use Rattle.ygm_route.specs.declared.scheme.Scheme.TheVariants.{Direct}
 use Rattle.ygm_route.specs.Hop.{hop}
 use Rattle.ygm_route.proofs.Hop.Cases.{hop-direct}
 use Rattle.world_core.specs.declared.entry.Entry.{Entry}
-use Rattle.world_core.specs.declared.entry.Entry.TheVariants.{Put, Took}
+use Rattle.world_core.specs.declared.entry.Entry.TheVariants.{Put}
 use Rattle.world_core.specs.ControlRules.{is_free, sent_while_counted, wrong_control, count_early, count_unforwarded, count_wrong, total_early, total_wrong}
 use Rattle.world_core.specs.Limits.{most_letters}
 use Rattle.world_core.specs.Local.{Local, having_put}
-use Rattle.world_core.specs.Log.{IsPut, letters_of, letters_put}
+use Rattle.world_core.specs.Log.{IsPut, letters_of}
 use Rattle.world_core.specs.Pairs.{is_data, is_of_pair, of_pair, of_sender, own_count, pair_put, sent, sent_number}
 use Rattle.world_core.specs.Post.{CountsNeverFall, FullsRise, IfFull, IfNoMemory, PutKeeps, SameFulls, SamePost, PostState, local_at}
 use Rattle.world_core.specs.declared.post.PutBack.{PutBack}
@@ -29,8 +29,7 @@ use Rattle.world_core.proofs.Deeds.TwoKinds.{data_not_count, data_not_total}
 use Rattle.world_core.proofs.Deeds.Honest.{honest_more}
 use Rattle.world_core.proofs.Pairs.Appended.{pair_put-put}
 use Rattle.world_core.proofs.Pairs.Numbers.{own_count-put, sent_number-is}
-use Rattle.list_facts.proofs.Elements.{all_append, all_first, all_second, all_weaker}
-use Rattle.list_facts.proofs.Tests.{none_any}
+use Rattle.list_facts.proofs.Elements.{all_append}
 use Rattle.comm_rank.specs.Agrees.{MaySend}
 use Rattle.comm_rank.proofs.Agrees.AfterPuts.{data_put}
 use Rattle.comm_rank.proofs.Rank.Same.{same_then}

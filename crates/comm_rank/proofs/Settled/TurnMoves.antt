@@ -1,7 +1,5 @@
 -- What one turn over plain links does to them.
 use Rattle.std.proofs.Common.{◌≡◌, ◌≢◌, ◌⊎◌, ℕ, ◌+◌, ◌<◌, ◌≤◌, Bool, false, leb-true, lt-ltb, Some, List, [], ◌++◌, length, drop, get_or, set, slice_get, refl, sym, ap, ◌∙◌, subst, inl, inr, arith, append-nil, append_assoc, length-append, length-set}
-use Rattle.std.specs.Bool.{IsTrue}
-use Rattle.std.specs.List.{AllByRecursion}
 use Rattle.std.proofs.lemmas.Bool.{cases_eq, cases_lt, or_cases}
 use Rattle.std.proofs.lemmas.Grind.{flat_map-append}
 use Rattle.std.proofs.lemmas.List.Elements.{filter-append}
@@ -13,7 +11,7 @@ use Rattle.ygm_route.specs.declared.scheme.Scheme.TheVariants.{Direct}
 use Rattle.ygm_route.specs.Layout.{Shape}
 use Rattle.world_core.specs.Log.{batches_put, batches_taken, letters_put, letters_taken, letters_taken_by}
 use Rattle.world_core.specs.Modest.{IsWorld}
-use Rattle.world_core.specs.Pairs.{for_rank, is_data, is_of_pair, of_pair, own_count, pair_put, pair_taken, sent_number}
+use Rattle.world_core.specs.Pairs.{for_rank, is_of_pair, of_pair, own_count, pair_put, pair_taken, sent_number}
 use Rattle.world_core.specs.Plain.{Plain, state_of}
 use Rattle.world_core.specs.Post.{SamePost}
 use Rattle.world_core.specs.World.{link, log_of}

@@ -1,11 +1,11 @@
 -- In a still world a rank puts and takes no data letter, unless that makes the sum before the next cut greater.
-use Rattle.std.proofs.Common.{◌≡◌, ℕ, suc, ◌<◌, ◌&&◌, Bool, true, false, not, nat_eq, eqb-true, ltb-true, Some, slice_get, List, [], ◌∷◌, ◌++◌, length, filter, refl, sym, ap, ◌∙◌, subst, inl, inr, arith, length-append}
+use Rattle.std.proofs.Common.{◌≡◌, ℕ, suc, ◌&&◌, Bool, true, false, not, nat_eq, Some, slice_get, List, [], ◌∷◌, ◌++◌, length, filter, refl, sym, ap, ◌∙◌, subst, inl, inr, arith, length-append}
 use Rattle.std.proofs.lemmas.Bool.{cases_lt, false_from_ne_true, not-false}
 use Rattle.std.proofs.lemmas.Grind.{flat_map-append}
 use Rattle.std.proofs.lemmas.List.{nil_from_length}
 use Rattle.std.proofs.lemmas.List.Elements.{filter-append}
 use Rattle.list_facts.specs.Prefix.{IsPrefix}
-use Rattle.list_facts.proofs.Tests.{and_first, and_false_second, none_any, or_false_first}
+use Rattle.list_facts.proofs.Tests.{and_false_second, none_any, or_false_first}
 use Rattle.msg_codec.specs.Control.{is_control, is_count}
 use Rattle.msg_codec.specs.declared.letter.Letter.{Letter}
 use Rattle.world_core.specs.declared.entry.Entry.{Entry}

@@ -1,4 +1,4 @@
-use Rattle.std.proofs.Common.{◌≡◌, ◌<◌, ℕ, [], length, map}
+use Rattle.std.proofs.Common.{◌≡◌, ◌<◌, ℕ, []}
 use Rattle.comm_rank.specs.Held.{held_for}
 use Rattle.comm_rank.proofs.held.Held.is_empty.Given as goal
 
