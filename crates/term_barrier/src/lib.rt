@@ -1,6 +1,14 @@
 //! Barriers that end once nothing is in transit. They part what ranks send each other into phases.
 #![tactic(auto)]
 
+mod barrier;
+mod heard;
 pub mod laws;
+mod poll;
+mod polled;
+mod rounds;
 #[cfg(test)]
 mod tests;
+
+pub use barrier::Barrier;
+pub use polled::{Polled, Waiting};

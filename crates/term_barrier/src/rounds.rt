@@ -1,0 +1,199 @@
+//! Counts and Totals: what a rank puts for a round.
+ghost use Rattle.std.specs.Prelude.{◌≡◌, ◌+◌, ◌<◌, ◌≤◌, ℕ, Ok, Some, true, false, None, [], ◌∷◌, IfOk, IfErr, IfSome, IsNone, IsTrue, OnErr};
+ghost use Rattle.msg_codec.specs.Control.{letter_of_control};
+ghost use Rattle.world_core.specs.Limits.{most_arrived};
+ghost use Rattle.world_core.specs.Post.{PutKeeps, SameFulls, local_at};
+ghost use Rattle.world_core.specs.Rules.{first_broken};
+ghost use Rattle.world_core.specs.Rules.Deed.{Puts};
+ghost use Rattle.comm_rank.specs.declared.fault.CommFault.TheVariants.{NoMemory};
+ghost use Rattle.comm_rank.specs.Rank.{IsIdle, held_letters};
+ghost use Rattle.term_barrier.specs.Barriers.{HasHeardAll, HasPutTotals, IsMissing, IsTotalDue, round_sums, with_total_put};
+ghost use Rattle.term_barrier.specs.Polls.{FoundFull, HasPutControls, PutsLetter, Stands};
+
+use crate::Barrier;
+use crate::heard::RoundSums;
+use comm_rank::{Comm, CommFault, Handler};
+use msg_codec::{Batch, Control};
+use std::alloc::Global;
+use world_core::{Post, PutBack};
+
+/// Puts a control letter, as the rank `here`, into its link to `to`. It returns whether the link wasn't full.
+fn put_letter<P: Post>(
+    post: &mut P,
+    alloc: Global,
+    here: u32,
+    to: u32,
+    control: Control,
+) -> Result<bool, CommFault>
+    requires serves { IsTrue ((P.state post.old).serves here) }
+    requires honest { first_broken (local_at (P.state post.old) here) (Puts to (letter_of_control control ∷ [])) ≡ None }
+    ensures put { IfOk result (λ put. PutsLetter put here to (letter_of_control control) (P.state post.old) (P.state post.new)) }
+    ensures not_put { IfErr result (λ fault. (fault ≡ NoMemory) × ((P.state post.new).log here ≡ (P.state post.old).log here) × SameFulls (P.state post.old) (P.state post.new)) }
+    ensures keeps { PutKeeps here (P.state post.old) (P.state post.new) }
+{
+    match post.put(here, to, Batch::of_control(alloc, control)) {
+        Ok(()) => Ok(true),
+        Err(PutBack::Full(_)) => Ok(false),
+        Err(PutBack::NoMemory(_)) => Err(CommFault::NoMemory),
+    }
+}
+
+impl Barrier {
+    /// Puts the Count of the next round, where the rank knows each round before, is idle, and may count one more. It
+    /// returns rank 0 where the link to it was full.
+    pub(crate) fn put_count<H: Handler, P: Post>(
+        &mut self,
+        comm: &Comm<H>,
+        post: &mut P,
+    ) -> Result<Option<u32>, CommFault>
+        requires stands { Stands H.apply H.start self.old comm.now (P.state post.old) }
+        requires inside { self.old.inside ≡ true }
+        requires all_handed { comm.now.controls ≡ [] }
+        ensures controls { HasPutControls (held_letters comm.now) self.old self.new (P.state post.old) (P.state post.new) }
+        ensures stands { Stands H.apply H.start self.new comm.now (P.state post.new) }
+        ensures full { IfOk result (λ full. FoundFull full (P.state post.old) (P.state post.new)) }
+        ensures put { result ≡ Ok None → IsIdle comm.now → self.new.counted < self.new.rounds → self.new.known < self.new.counted }
+        ensures no_memory { IfErr result (λ fault. fault ≡ NoMemory) }
+    {
+        if self.counted > self.known || self.counted >= self.rounds || !comm.is_idle() {
+            return Ok(None);
+        }
+        let count = Control::Count {
+            rank: self.here,
+            q: self.counted,
+            s: comm.sent_count(),
+            r: comm.run_count(),
+        };
+        if !put_letter(post, self.alloc, self.here, 0, count)? {
+            return Ok(Some(0));
+        }
+        self.counted += 1;
+        Ok(None)
+    }
+
+    /// The lowest rank whose Count of the present round wasn't handed over.
+    pub(crate) fn missing(&self) -> Option<u32>
+        ensures some { IfSome result (IsMissing self.now) }
+        ensures none { IsNone result → HasHeardAll self.now }
+    {
+        for rank in 0..self.layout.ranks() {
+            if self.heard[rank as usize].rounds <= self.known {
+                return Some(rank);
+            }
+        }
+        None
+    }
+
+    /// The sums of the round that comes after those that are over.
+    fn round_sums(&self) -> RoundSums
+        requires few { (round_sums self.now).sent ≤ most_arrived }
+        requires few_run { (round_sums self.now).run ≤ most_arrived }
+        ensures { result ≡ round_sums self.now }
+    {
+        let mut sent = 0;
+        let mut run = 0;
+        for rank in 0..self.layout.ranks() {
+            let one = &self.heard[rank as usize];
+            let sums = if one.rounds == self.over + 1 {
+                one.last
+            } else {
+                one.before
+            };
+            sent += sums.sent;
+            run += sums.run;
+        }
+        RoundSums { sent, run }
+    }
+
+    /// Puts the Total of that round, with these sums, to the rank that is next. It returns whether the link wasn't full.
+    fn put_total<H: Handler, P: Post>(
+        &mut self,
+        comm: &Comm<H>,
+        post: &mut P,
+        to: u32,
+        sums: RoundSums,
+    ) -> Result<bool, CommFault>
+        requires stands { Stands H.apply H.start self.old comm.now (P.state post.old) }
+        requires inside { self.old.inside ≡ true }
+        requires all_handed { comm.now.controls ≡ [] }
+        requires first_rank { self.old.here ≡ 0 }
+        requires due { IsTotalDue self.old to sums }
+        ensures controls { HasPutControls (held_letters comm.now) self.old self.new (P.state post.old) (P.state post.new) }
+        ensures stands { Stands H.apply H.start self.new comm.now (P.state post.new) }
+        ensures full { result ≡ Ok false → (self.new ≡ self.old) × FoundFull (Some to) (P.state post.old) (P.state post.new) }
+        ensures put { result ≡ Ok true → (self.new ≡ with_total_put self.old to) × FoundFull None (P.state post.old) (P.state post.new) }
+        ensures unchanged { OnErr result (self.new ≡ self.old) }
+        ensures no_memory { IfErr result (λ fault. fault ≡ NoMemory) }
+    {
+        let total = Control::Total {
+            to,
+            q: self.over,
+            s: sums.sent,
+            r: sums.run,
+        };
+        let put = put_letter(post, self.alloc, self.here, to, total)?;
+        if put && to == 0 {
+            self.over += 1;
+            self.next = 1;
+        } else if put {
+            self.next = to + 1;
+        }
+        Ok(put)
+    }
+
+    /// At rank 0, where it has the Counts of all ranks of the present round, puts the Total of that round to the other
+    /// ranks, in order, and to itself last. It returns the rank to which the link was full, where one was.
+    pub(crate) fn put_totals<H: Handler, P: Post>(
+        &mut self,
+        comm: &Comm<H>,
+        post: &mut P,
+    ) -> Result<Option<u32>, CommFault>
+        requires stands { Stands H.apply H.start self.old comm.now (P.state post.old) }
+        requires inside { self.old.inside ≡ true }
+        requires all_handed { comm.now.controls ≡ [] }
+        ensures controls { HasPutControls (held_letters comm.now) self.old self.new (P.state post.old) (P.state post.new) }
+        ensures stands { Stands H.apply H.start self.new comm.now (P.state post.new) }
+        ensures counted { self.new.counted ≡ self.old.counted }
+        ensures full { IfOk result (λ full. FoundFull full (P.state post.old) (P.state post.new)) }
+        ensures put { result ≡ Ok None → self.new.known < self.new.counted → HasPutTotals self.new }
+        ensures no_memory { IfErr result (λ fault. fault ≡ NoMemory) }
+    {
+        if self.here != 0 || self.over != self.known || self.counted <= self.known || self.missing().is_some() {
+            return Ok(None);
+        }
+        let sums = self.round_sums();
+        for to in self.next..self.layout.ranks() {
+            if !self.put_total(comm, post, to, sums)? {
+                return Ok(Some(to));
+            }
+        }
+        if !self.put_total(comm, post, 0, sums)? {
+            return Ok(Some(0));
+        }
+        Ok(None)
+    }
+
+    /// Puts what is due of Counts and Totals. It returns the rank to which the link was full, where one was.
+    pub(crate) fn put_controls<H: Handler, P: Post>(
+        &mut self,
+        comm: &Comm<H>,
+        post: &mut P,
+    ) -> Result<Option<u32>, CommFault>
+        requires stands { Stands H.apply H.start self.old comm.now (P.state post.old) }
+        requires inside { self.old.inside ≡ true }
+        requires all_handed { comm.now.controls ≡ [] }
+        ensures controls { HasPutControls (held_letters comm.now) self.old self.new (P.state post.old) (P.state post.new) }
+        ensures one_count { self.new.counted ≤ self.old.counted + 1 }
+        ensures stands { Stands H.apply H.start self.new comm.now (P.state post.new) }
+        ensures full { IfOk result (λ full. FoundFull full (P.state post.old) (P.state post.new)) }
+        ensures count_put { result ≡ Ok None → IsIdle comm.now → self.new.counted < self.new.rounds → self.new.known < self.new.counted }
+        ensures totals_put { result ≡ Ok None → self.new.known < self.new.counted → HasPutTotals self.new }
+        ensures no_memory { IfErr result (λ fault. fault ≡ NoMemory) }
+    {
+        let full = self.put_count(comm, post)?;
+        if full.is_some() {
+            return Ok(full);
+        }
+        self.put_totals(comm, post)
+    }
+}
