@@ -1,0 +1,3 @@
+pub mod OneControl
+pub mod HonestCount
+pub mod HonestTotal
