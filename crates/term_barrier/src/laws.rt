@@ -27,7 +27,7 @@ ghost use Rattle.world_core.specs.Rounds.{barrier_start, rounds_known, sums_told
 ghost use Rattle.world_core.specs.Wave.{EndsBarrier, IsComplete, IsQuiet, sums_at};
 ghost use Rattle.world_core.specs.World.{Logs, local, log_of};
 ghost use Rattle.comm_rank.specs.declared.turn.Turn.{Turn};
-ghost use Rattle.comm_rank.specs.Agrees.{Agrees};
+ghost use Rattle.comm_rank.specs.Agrees.{Agrees, IsServed};
 ghost use Rattle.comm_rank.specs.Fold.{Applies, fold_from};
 ghost use Rattle.comm_rank.specs.Rank.{HasSent, IsSameRank, Rank, held_letters, local_of};
 ghost use Rattle.comm_rank.specs.Turns.{Turned};
@@ -40,7 +40,7 @@ ghost use Rattle.term_barrier.specs.Left.{HasLeft, HaveLeft, barriers_left, gain
 ghost use Rattle.term_barrier.specs.Merge.{IsMerge};
 ghost use Rattle.term_barrier.specs.Passed.{HasPassed, LevelsRise, TookPrefixes};
 ghost use Rattle.term_barrier.specs.Polls.{HasPolled};
-ghost use Rattle.term_barrier.specs.Served.{IsServed, IsSettledCut};
+ghost use Rattle.term_barrier.specs.Served.{IsSettledCut};
 ghost use Rattle.term_barrier.specs.Worked.{lone_rank};
 
 use comm_rank::Handler;
@@ -354,7 +354,7 @@ pub fn all_is_settled_where_a_barrier_ended<C>()
     ensures { (apply : Applies C) (start : ℕ → C) (world : Logs) (rank barrier round : ℕ) → IsSound world →
         HasLeft (local world rank) barrier round →
         ((one : ℕ) → one < world.layout.ranks →
-        IsServed (handler_at apply world.layout.ranks start one) (log_of world one)) →
+        IsServed apply one world.layout.ranks (start one) (log_of world one)) →
         IsSettledCut apply start world (pred round) }
 {}
 
