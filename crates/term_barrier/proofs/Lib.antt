@@ -7,3 +7,4 @@ pub mod Passed
 pub mod Left
 pub mod Served
 pub mod Barriers
+pub mod Puts
