@@ -21,13 +21,16 @@ use Rattle.term_barrier.proofs.Left.SameSums.{ended_below-same, first_round-same
 
 -- ---- one letter more
 
-kept-append : (p : Letter → Bool) (letters : List Letter) (l : Letter) → map sums_of (filter p (letters ++ l ∷ [])) ≡ map sums_of (filter p letters) ++ map sums_of (cond (p l) (l ∷ []) [])
+kept-append : (p : Letter → Bool) (letters : List Letter) (l : Letter) →
+    map sums_of (filter p (letters ++ l ∷ [])) ≡ map sums_of (filter p letters) ++ map sums_of (cond (p l) (l ∷ []) [])
 kept-append p letters l = ap (map sums_of) (filter-append p letters (l ∷ [])) ∙ map-append sums_of (filter p letters) (cond (p l) (l ∷ []) [])
 
-kept_more : (p : Letter → Bool) (letters : List Letter) (l : Letter) → p l ≡ true → map sums_of (filter p (letters ++ l ∷ [])) ≡ map sums_of (filter p letters) ++ sums_of l ∷ []
+kept_more : (p : Letter → Bool) (letters : List Letter) (l : Letter) → p l ≡ true →
+    map sums_of (filter p (letters ++ l ∷ [])) ≡ map sums_of (filter p letters) ++ sums_of l ∷ []
 kept_more p letters l is = kept-append p letters l ∙ rw is refl
 
-kept_same : (p : Letter → Bool) (letters : List Letter) (l : Letter) → p l ≡ false → map sums_of (filter p (letters ++ l ∷ [])) ≡ map sums_of (filter p letters)
+kept_same : (p : Letter → Bool) (letters : List Letter) (l : Letter) → p l ≡ false →
+    map sums_of (filter p (letters ++ l ∷ [])) ≡ map sums_of (filter p letters)
 kept_same p letters l is = kept-append p letters l ∙ rw is (append-nil (map sums_of (filter p letters)))
 
 got_last : (xs : List Sums) (x : Sums) (q : ℕ) → q ≡ length xs → get_or (xs ++ x ∷ []) q no_sums ≡ x
@@ -117,7 +120,13 @@ module _ (barrier : BarrierState) (letters : List Letter) (log : List Entry) (l 
   same_totals : totals_heard barrier.here (letters ++ l ∷ []) ≡ totals_heard barrier.here letters
   same_totals = kept_same (is_total_to barrier.here) letters l no_total
 
-  same_heard : (q : ℕ) → sums_heard barrier.here letters q ≡ sums_heard barrier.here (letters ++ l ∷ []) q
+  abbrev heard_before : ℕ → Sums
+  heard_before = sums_heard barrier.here letters
+
+  abbrev heard_now : ℕ → Sums
+  heard_now = sums_heard barrier.here (letters ++ l ∷ [])
+
+  same_heard : (q : ℕ) → heard_before q ≡ heard_now q
   same_heard q = ap (λ xs. get_or xs q no_sums) (sym same_totals)
 
   abbrev HearsAll : List Heard → Type 0
@@ -128,14 +137,15 @@ module _ (barrier : BarrierState) (letters : List Letter) (log : List Entry) (l 
     counts_are = its.counts_are;
     totals_are = its.totals_are;
     known_are = its.known_are ∙ ap length (sym same_totals);
-    first_is = its.first_is ∙ first_round-same (sums_heard barrier.here letters) (sums_heard barrier.here (letters ++ l ∷ [])) barrier.known (λ q lt. same_heard q);
-    left_are = its.left_are ∙ ended_below-same (sums_heard barrier.here letters) (sums_heard barrier.here (letters ++ l ∷ [])) barrier.known (λ q lt. same_heard q);
+    first_is = its.first_is ∙ first_round-same heard_before heard_now barrier.known (λ q lt. same_heard q);
+    left_are = its.left_are ∙ ended_below-same heard_before heard_now barrier.known (λ q lt. same_heard q);
     last_is = λ some. its.last_is some ∙ same_heard (pred barrier.known);
     heard_are = all;
   }
 
   -- a rank of which it is no Count
-  stays_heard : (from : ℕ) → from < barrier.layout.ranks → is_count_of from l ≡ false → IsHeard (heard_of barrier from) (counts_heard from (letters ++ l ∷ []))
+  stays_heard : (from : ℕ) → from < barrier.layout.ranks → is_count_of from l ≡ false →
+      IsHeard (heard_of barrier from) (counts_heard from (letters ++ l ∷ []))
   stays_heard from within none =
       subst (IsHeard (heard_of barrier from)) (sym (kept_same (is_count_of from) letters l none)) (its.heard_are from within)
 
@@ -191,7 +201,7 @@ rounds_letter barrier letters log l all its = by (is_total_to barrier.here l) (i
     by false false other neither = rounds_neither barrier letters log l other its neither
 
 -- what was heard, in a barrier that is otherwise another
-abbrev hearing : BarrierState → BarrierState → BarrierState
+abbrev pub hearing : BarrierState → BarrierState → BarrierState
 hearing old new = record old { left = new.left; known = new.known; first = new.first; last = new.last; heard = new.heard }
 
 letter_keeps : (barrier : BarrierState) (l : Letter) → with_letter barrier l ≡ hearing barrier (with_letter barrier l)
@@ -211,15 +221,15 @@ letter_length barrier l = by (is_total_to barrier.here l) (is_count l && nat_eq 
     by false false = refl
 
 -- All else stays the same.
-pub letters_keep : (barrier : BarrierState) (letters : List Letter) → with_letters barrier letters ≡ hearing barrier (with_letters barrier letters)
-letters_keep barrier [] = refl
-letters_keep barrier (l ∷ letters) =
+pub with_letters_keeps : (barrier : BarrierState) (letters : List Letter) → with_letters barrier letters ≡ hearing barrier (with_letters barrier letters)
+with_letters_keeps barrier [] = refl
+with_letters_keeps barrier (l ∷ letters) =
     let now : BarrierState = with_letters (with_letter barrier l) letters in
-    letters_keep (with_letter barrier l) letters ∙ ap (λ old. hearing old now) (letter_keeps barrier l)
+    with_letters_keeps (with_letter barrier l) letters ∙ ap (λ old. hearing old now) (letter_keeps barrier l)
 
-pub letters_length : (barrier : BarrierState) (letters : List Letter) → length (with_letters barrier letters).heard ≡ length barrier.heard
-letters_length barrier [] = refl
-letters_length barrier (l ∷ letters) = letters_length (with_letter barrier l) letters ∙ letter_length barrier l
+pub with_letters_length : (barrier : BarrierState) (letters : List Letter) → length (with_letters barrier letters).heard ≡ length barrier.heard
+with_letters_length barrier [] = refl
+with_letters_length barrier (l ∷ letters) = with_letters_length (with_letter barrier l) letters ∙ letter_length barrier l
 
 pub rounds_letters : (barrier : BarrierState) (letters more : List Letter) (log : List Entry) → length barrier.heard ≡ barrier.layout.ranks →
     AreItsRounds barrier letters log → AreItsRounds (with_letters barrier more) (letters ++ more) log
@@ -234,7 +244,7 @@ rounds_letters barrier letters (l ∷ more) log all its =
 pub agrees_handed_all : (barrier : BarrierState) (kept : List Letter) (me : Local) → InRange barrier → BarrierAgrees barrier kept me →
     BarrierAgrees (with_letters barrier kept) [] me
 agrees_handed_all barrier kept me range agrees =
-    let keep = letters_keep barrier kept in
+    let keep = with_letters_keeps barrier kept in
     record {
       layout = ap (λ b. b.layout) keep ∙ agrees.layout;
       here = ap (λ b. b.here) keep ∙ agrees.here;

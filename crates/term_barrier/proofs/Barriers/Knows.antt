@@ -1,10 +1,10 @@
 -- In a modest log, the control letters say what the log does of the Counts and Totals that it took: each by its place.
-use Rattle.std.proofs.Common.{◌≡◌, ℕ, zero, suc, ◌+◌, Bool, true, false, ◌&&◌, cond, nat_eq, eqb-true, eq-eqb, ne_eqb, is_some, Some, None, List, [], ◌∷◌, length, map, filter, get_or, slice_get, refl, sym, ap, ◌∙◌, subst, le_trans, arith, if◌then◌else◌}
-use Rattle.std.specs.List.{AllByRecursion, cons_option, find, list_any}
+use Rattle.std.proofs.Common.{◌≡◌, ℕ, zero, suc, ◌+◌, Bool, true, false, ◌&&◌, cond, nat_eq, eqb-true, eq-eqb, ne_eqb, is_some, List, [], ◌∷◌, length, map, filter, get_or, slice_get, refl, sym, ap, ◌∙◌, subst, le_trans, arith}
+use Rattle.std.specs.List.{AllByRecursion, find, list_any}
 use Rattle.std.proofs.lemmas.Bool.{false≢true, not-false, or_right}
 use Rattle.std.proofs.lemmas.Option.{slice_get-get_or, slice_get_past}
 use Rattle.list_facts.proofs.Below.{row_is}
-use Rattle.list_facts.proofs.Elements.{all_append, all_weaker}
+use Rattle.list_facts.proofs.Elements.{all_weaker}
 use Rattle.list_facts.proofs.Filters.{filter_fewer, filter_within}
 use Rattle.list_facts.proofs.Tests.{and_first, and_false_second, and_second, or_false_first, or_false_second}
 use Rattle.msg_codec.specs.Control.{is_control, is_count, is_total, round_of}
@@ -20,6 +20,7 @@ use Rattle.world_core.specs.Rounds.{rounds_known, sums_in, sums_told}
 use Rattle.world_core.proofs.Log.ByLink.{only_taken}
 use Rattle.world_core.proofs.Modest.Lawful.{lawful_batch, sender}
 use Rattle.term_barrier.specs.Barriers.{control_letters, no_sums, sums_heard, sums_of}
+use Rattle.term_barrier.proofs.Links.{AllTook, each_link}
 
 -- ---- numbered letters
 
@@ -52,22 +53,6 @@ pub no_letter : Letter
 no_letter = record { to = 0; from = 0; tag = 0; body = [] }
 
 -- ---- letters of links
-
--- what holds of each batch that a log took, by the rank that it came from
-abbrev pub AllTook : (ℕ → Letter → Type 0) → Entry → Type 0
-AllTook Q (Put to letters) = Unit {0}
-AllTook Q (Took from letters) = AllByRecursion (Q from) letters
-
-pub each_link : (Q : ℕ → Letter → Type 0) (rank : ℕ) (log : List Entry) → AllByRecursion (AllTook Q) log → AllByRecursion (Q rank) (letters_of (batches_taken rank log))
-each_link Q rank [] all = tt
-each_link Q rank (Put to letters ∷ log) all = each_link Q rank log all.1
-each_link Q rank (Took from letters ∷ log) all = by_link (nat_eq from rank) refl all.0 (each_link Q rank log all.1)
-  where
-    by_link : (b : Bool) → nat_eq from rank ≡ b → AllByRecursion (Q from) letters → AllByRecursion (Q rank) (letters_of (batches_taken rank log)) →
-        AllByRecursion (Q rank) (letters_of (cons_option (if b then Some letters else None) (batches_taken rank log)))
-    by_link true same first later =
-        all_append (Q rank) letters (letters_of (batches_taken rank log)) (subst (λ r. AllByRecursion (Q r) letters) (eqb-true from rank same) first) later
-    by_link false other first later = later
 
 filter_alike : (p q : Letter → Bool) (xs : List Letter) → AllByRecursion (λ l. p l ≡ q l) xs → filter p xs ≡ filter q xs
 filter_alike p q [] alike = refl

@@ -9,7 +9,7 @@ use Rattle.world_core.specs.Modest.{IsModest}
 use Rattle.world_core.specs.Rounds.{Sums}
 use Rattle.term_barrier.specs.Barriers.{BarrierAgrees, BarrierState, HasRoom, InRange, is_last_round, sums_of, totals_heard, with_count, with_letters, with_total}
 use Rattle.term_barrier.specs.Left.{HasLeft}
-use Rattle.term_barrier.proofs.Barriers.Handed.{agrees_handed_all, by_kind, letters_keep, letters_length}
+use Rattle.term_barrier.proofs.Barriers.Handed.{agrees_handed_all, by_kind, with_letters_keeps, with_letters_length}
 use Rattle.term_barrier.proofs.Barriers.Room.{room}
 use Rattle.term_barrier.proofs.Barriers.Rounds.{first_is, just_left}
 
@@ -18,10 +18,10 @@ abbrev told : BarrierState → Letter → List Letter → Bool → List Sums
 told barrier l letters total = map sums_of (cond total (l ∷ filter (is_total_to barrier.here) letters) (filter (is_total_to barrier.here) letters))
 
 -- it knows one round more by each Total
-pub letters_known : (barrier : BarrierState) (letters : List Letter) →
+pub with_letters_known : (barrier : BarrierState) (letters : List Letter) →
     (with_letters barrier letters).known ≡ barrier.known + length (totals_heard barrier.here letters)
-letters_known barrier [] = omega arith
-letters_known barrier (l ∷ letters) = by (λ now. letters_known now letters) (is_total_to barrier.here l) (is_count l && nat_eq l.to 0)
+with_letters_known barrier [] = omega arith
+with_letters_known barrier (l ∷ letters) = by (λ now. with_letters_known now letters) (is_total_to barrier.here l) (is_count l && nat_eq l.to 0)
   where
     by : ((now : BarrierState) → (with_letters now letters).known ≡ now.known + length (totals_heard now.here letters)) → (total count : Bool) →
         (with_letters (by_kind barrier l total count) letters).known ≡ barrier.known + length (told barrier l letters total)
@@ -35,7 +35,8 @@ record SameRounds (old new : BarrierState) : Type 0 where
   known : new.known ≡ old.known
   first : new.first ≡ old.first
 
-none_told : (barrier : BarrierState) (letters : List Letter) → length (totals_heard barrier.here letters) ≡ 0 → SameRounds barrier (with_letters barrier letters)
+none_told : (barrier : BarrierState) (letters : List Letter) → length (totals_heard barrier.here letters) ≡ 0 →
+    SameRounds barrier (with_letters barrier letters)
 none_told barrier [] none = record { left = refl; known = refl; first = refl }
 none_told barrier (l ∷ letters) none = by (λ now. none_told now letters) (is_total_to barrier.here l) (is_count l && nat_eq l.to 0) none
   where
@@ -58,7 +59,8 @@ one_total barrier sums new same = by (is_last_round barrier sums) same.left same
     by true left first = inr (left, first ∙ sym same.known, same.known)
     by false left first = inl left
 
-one_at_most : (barrier : BarrierState) (letters : List Letter) → length (totals_heard barrier.here letters) ≤ 1 → LeftOnce barrier (with_letters barrier letters)
+one_at_most : (barrier : BarrierState) (letters : List Letter) → length (totals_heard barrier.here letters) ≤ 1 →
+    LeftOnce barrier (with_letters barrier letters)
 one_at_most barrier [] few = inl refl
 one_at_most barrier (l ∷ letters) few = by (λ now. one_at_most now letters) (is_total_to barrier.here l) (is_count l && nat_eq l.to 0) few
   where
@@ -83,8 +85,8 @@ module _ (barrier : BarrierState) (kept : List Letter) (range : InRange barrier)
 
   pub in_range : InRange (with_letters barrier kept)
   in_range =
-      let keep = letters_keep barrier kept in
-      let known = letters_known barrier kept in
+      let keep = with_letters_keeps barrier kept in
+      let known = with_letters_known barrier kept in
       let counted : now.counted ≡ barrier.counted = ap (λ b. b.counted) keep in
       let ranks : now.layout.ranks ≡ barrier.layout.ranks = ap (λ b. b.layout.ranks) keep in
       let rounds : now.rounds ≡ barrier.rounds = ap (λ b. b.rounds) keep in
@@ -100,12 +102,12 @@ module _ (barrier : BarrierState) (kept : List Letter) (range : InRange barrier)
         left_few = few_left left_once (omega (arith, known));
         over_few = omega (arith, over, counted, range.over_few);
         next_within = (omega (arith, next, range.next_within.0), omega (arith, next, ranks, range.next_within.1));
-        all = letters_length barrier kept ∙ range.all ∙ sym ranks;
+        all = with_letters_length barrier kept ∙ range.all ∙ sym ranks;
       }
 
 -- where it counted no round of a barrier that begins after all that it knows, its rank may be outside
-pub agrees_outside : (barrier : BarrierState) (me : Local) → IsModest me → BarrierAgrees barrier [] me → barrier.first ≡ barrier.known → barrier.counted ≤ barrier.known →
-    BarrierAgrees (record barrier { inside = false }) [] me
+pub agrees_outside : (barrier : BarrierState) (me : Local) → IsModest me → BarrierAgrees barrier [] me →
+    barrier.first ≡ barrier.known → barrier.counted ≤ barrier.known → BarrierAgrees (record barrier { inside = false }) [] me
 agrees_outside barrier me modest agrees first known = record {
   layout = agrees.layout;
   here = agrees.here;
@@ -123,8 +125,8 @@ agrees_outside barrier me modest agrees first known = record {
   outside = λ inside. le-ltb _ _ (omega (arith, agrees.its_rounds.counts_are, first, known, first_is barrier me modest agrees));
 }
 
-module _ (barrier : BarrierState) (kept : List Letter) (me : Local) (range : InRange barrier) (modest : IsModest me) (agrees : BarrierAgrees barrier kept me)
-    (more : barrier.left < (with_letters barrier kept).left) where
+module _ (barrier : BarrierState) (kept : List Letter) (me : Local) (range : InRange barrier) (modest : IsModest me)
+    (agrees : BarrierAgrees barrier kept me) (more : barrier.left < (with_letters barrier kept).left) where
   abbrev after : BarrierState
   after = with_letters barrier kept
 
@@ -139,7 +141,7 @@ module _ (barrier : BarrierState) (kept : List Letter) (me : Local) (range : InR
 
   pub left_outside : BarrierAgrees (record (with_letters barrier kept) { inside = false }) [] me
   left_outside =
-      let counted : after.counted ≡ barrier.counted = ap (λ b. b.counted) (letters_keep barrier kept) in
+      let counted : after.counted ≡ barrier.counted = ap (λ b. b.counted) (with_letters_keeps barrier kept) in
       agrees_outside after me modest handed one.1 (omega (arith, counted, one.2, range.one_ahead))
 
   pub left_now : HasLeft me barrier.left ((with_letters barrier kept).known - 1)

@@ -1,6 +1,6 @@
 -- A barrier has room for the letters that its rank keeps, while it agrees with a modest log: the Counts and Totals in that
 -- log came in their turn.
-use Rattle.std.proofs.Common.{◌≡◌, ℕ, suc, ◌+◌, ◌<◌, ◌≤◌, ◌&&◌, Bool, true, false, cond, nat_lt, lt-ltb, Some, List, [], ◌∷◌, ◌++◌, length, length-append, map, filter, slice_get, take, drop, take-append-drop, refl, sym, ap, ◌∙◌, le_trans, inl, inr, arith}
+use Rattle.std.proofs.Common.{◌≡◌, ℕ, suc, ◌+◌, ◌<◌, ◌≤◌, ◌&&◌, Bool, true, false, cond, nat_lt, lt-ltb, List, [], ◌∷◌, ◌++◌, length, length-append, map, filter, take, drop, take-append-drop, refl, sym, ap, ◌∙◌, le_trans, inl, inr, arith}
 use Rattle.std.specs.List.{AllByRecursion, list_any}
 use Rattle.std.proofs.lemmas.Bool.{cases_lt, false≢true}
 use Rattle.std.proofs.lemmas.List.{length-map, map-append}
@@ -8,17 +8,16 @@ use Rattle.std.proofs.lemmas.List.Elements.{filter-append}
 use Rattle.list_facts.proofs.Tests.{and_false_second, or_false_first, or_false_second}
 use Rattle.msg_codec.specs.Control.{is_count, round_of}
 use Rattle.msg_codec.specs.declared.letter.Letter.{Letter}
-use Rattle.world_core.specs.declared.entry.Entry.{Entry}
-use Rattle.world_core.specs.declared.entry.Entry.TheVariants.{Put, Took}
 use Rattle.world_core.specs.Counts.{counts, is_count_of, is_total_to, totals}
 use Rattle.world_core.specs.Local.{Local}
 use Rattle.world_core.specs.Log.{batches_taken, letters_of}
 use Rattle.world_core.specs.Modest.{AreNumbered, IsModest, too_soon}
 use Rattle.world_core.specs.Rounds.{rounds_known}
-use Rattle.term_barrier.specs.Barriers.{BarrierAgrees, BarrierState, HasRoom, InRange, control_letters, counts_heard, heard_of, sums_of, totals_heard}
+use Rattle.term_barrier.specs.Barriers.{BarrierAgrees, BarrierState, HasRoom, InRange, control_letters, counts_heard, heard_of, sums_of, totals_heard, totals_put}
 use Rattle.term_barrier.proofs.Barriers.Agrees.{totals-append}
-use Rattle.term_barrier.proofs.Barriers.Knows.{AllTook, counts_over_link, each_link, known_at}
+use Rattle.term_barrier.proofs.Barriers.Knows.{counts_over_link, known_at}
 use Rattle.term_barrier.proofs.Left.Since.{counted_known}
+use Rattle.term_barrier.proofs.Links.{each_batch, each_link}
 
 -- ---- Counts
 
@@ -29,20 +28,14 @@ numbered_within n most [] le numbered all = omega (arith, le)
 numbered_within n most (l ∷ letters) le numbered all =
     omega (arith, numbered_within (suc n) most letters (omega (arith, numbered.0, all.0)) numbered.1 all.1)
 
-kept_of : (Q : Letter → Type 0) (p : Letter → Bool) (letters : List Letter) → AllByRecursion (λ l. p l ≡ true → Q l) letters → AllByRecursion Q (filter p letters)
+kept_of : (Q : Letter → Type 0) (p : Letter → Bool) (letters : List Letter) → AllByRecursion (λ l. p l ≡ true → Q l) letters →
+    AllByRecursion Q (filter p letters)
 kept_of Q p [] all = tt
 kept_of Q p (l ∷ letters) all = by (p l) all.0 (kept_of Q p letters all.1)
   where
     by : (b : Bool) → (b ≡ true → Q l) → AllByRecursion Q (filter p letters) → AllByRecursion Q (cond b (l ∷ filter p letters) (filter p letters))
     by true here later = (here refl, later)
     by false here later = later
-
--- what holds of the letters of each batch that a log took
-each_batch : (Q : ℕ → Letter → Type 0) (log : List Entry) →
-    ((k from : ℕ) (letters : List Letter) → slice_get log k ≡ Some (Took from letters) → AllByRecursion (Q from) letters) → AllByRecursion (AllTook Q) log
-each_batch Q [] each = tt
-each_batch Q (Put to letters ∷ log) each = (tt, each_batch Q log (λ k. each (suc k)))
-each_batch Q (Took from letters ∷ log) each = (each 0 from letters refl, each_batch Q log (λ k. each (suc k)))
 
 module _ (me : Local) (modest : IsModest me) where
   totals_grow : (k to : ℕ) → totals to (take k me.log) ≤ totals to me.log
@@ -95,13 +88,14 @@ put_few : (over : ℕ) (b : Bool) → over + cond b 1 0 ≤ over + 1
 put_few over true = omega arith
 put_few over false = omega arith
 
-module _ (barrier : BarrierState) (kept : List Letter) (me : Local) (range : InRange barrier) (modest : IsModest me) (agrees : BarrierAgrees barrier kept me) where
+module _ (barrier : BarrierState) (kept : List Letter) (me : Local) (range : InRange barrier) (modest : IsModest me)
+    (agrees : BarrierAgrees barrier kept me) where
   -- at most two Counts of a rank more than there are rounds that are over
   pub few_heard : (from : ℕ) → from < barrier.layout.ranks → (heard_of barrier from).rounds + length (counts_heard from kept) ≤ barrier.over + 2
   few_heard from within =
       let heard = agrees.its_rounds.heard_are from within in
-      let put : barrier.over + cond (nat_lt 0 from && nat_lt from barrier.next) 1 0 ≡ totals from me.log = agrees.its_rounds.totals_are from within in
-      let few : barrier.over + cond (nat_lt 0 from && nat_lt from barrier.next) 1 0 ≤ barrier.over + 1 = put_few barrier.over (nat_lt 0 from && nat_lt from barrier.next) in
+      let put : totals_put barrier from ≡ totals from me.log = agrees.its_rounds.totals_are from within in
+      let few : totals_put barrier from ≤ barrier.over + 1 = put_few barrier.over (nat_lt 0 from && nat_lt from barrier.next) in
       omega (
         arith,
         heard.rounds_are,

@@ -35,7 +35,8 @@ ended_there sums q begins = by_end (ends sums q) refl begins
     by_end false e h = absurd (omega (arith, h, first_within sums q))
 
 -- what is kept of the Count of a round, where that is the last which was heard or the one before
-sums_kept : (one : Heard) (sums : List Sums) (q : ℕ) → IsHeard one sums → q < one.rounds → one.rounds ≤ q + 2 → sums_heard_at q one ≡ get_or sums q no_sums
+sums_kept : (one : Heard) (sums : List Sums) (q : ℕ) → IsHeard one sums → q < one.rounds → one.rounds ≤ q + 2 →
+    sums_heard_at q one ≡ get_or sums q no_sums
 sums_kept one sums q heard after few = by (nat_eq one.rounds (q + 1)) refl
   where
     by : (b : Bool) → nat_eq one.rounds (q + 1) ≡ b → cond b one.last one.before ≡ get_or sums q no_sums
@@ -105,11 +106,13 @@ module _ (barrier : BarrierState) (me : Local) (modest : IsModest me) (agrees : 
     taken q before =
         ap is_some (count_at me modest from q ∙ slice_get-get_or letters q no_letter (omega (arith, before, rounds_heard)))
 
-    sums_of_count : InRange barrier → HasEveryCount barrier → sums_heard_at barrier.over (heard_of barrier from) ≡ sums_in (count_taken from barrier.over me.log)
+    sums_of_count : InRange barrier → HasEveryCount barrier →
+        sums_heard_at barrier.over (heard_of barrier from) ≡ sums_in (count_taken from barrier.over me.log)
     sums_of_count range every =
         let rank : from < barrier.layout.ranks = omega (arith, within, ap (λ layout. layout.ranks) agrees.layout) in
         let few : (heard_of barrier from).rounds ≤ barrier.over + 2 = omega (arith, few_heard barrier [] me range modest agrees from rank) in
-        sums_kept (heard_of barrier from) (counts_heard from (control_letters me.log)) barrier.over (heard_is from within) (every from rank) few
+        sums_kept (heard_of barrier from) (counts_heard from (control_letters me.log)) barrier.over
+        (heard_is from within) (every from rank) few
         ∙ sym (ap sums_in (count_at me modest from barrier.over) ∙ sums_at_place letters barrier.over)
 
   -- the sums of the round that comes after those that are over, whose Counts it has
