@@ -221,7 +221,8 @@ letter_length barrier l = by (is_total_to barrier.here l) (is_count l && nat_eq 
     by false false = refl
 
 -- All else stays the same.
-pub with_letters_keeps : (barrier : BarrierState) (letters : List Letter) → with_letters barrier letters ≡ hearing barrier (with_letters barrier letters)
+pub with_letters_keeps : (barrier : BarrierState) (letters : List Letter) →
+    with_letters barrier letters ≡ hearing barrier (with_letters barrier letters)
 with_letters_keeps barrier [] = refl
 with_letters_keeps barrier (l ∷ letters) =
     let now : BarrierState = with_letters (with_letter barrier l) letters in
