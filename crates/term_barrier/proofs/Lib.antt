@@ -4,7 +4,9 @@ pub mod Account
 pub mod CountedPlace
 pub mod CompleteRun
 pub mod Passed
+pub mod Links
 pub mod Left
 pub mod Served
 pub mod Barriers
 pub mod Hearing
+pub mod Puts

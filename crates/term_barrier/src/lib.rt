@@ -6,6 +6,7 @@ mod heard;
 pub mod laws;
 mod poll;
 mod polled;
+pub mod put_laws;
 mod rounds;
 #[cfg(test)]
 mod tests;

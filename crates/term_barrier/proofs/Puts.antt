@@ -1,0 +1,5 @@
+pub mod OneControl
+pub mod HonestCount
+pub mod HonestTotal
+pub mod Log
+pub mod Agrees
