@@ -116,16 +116,16 @@ room_for_rest barrier l letters room = by_total (is_total_to barrier.here l) ref
     by_count : (b : Bool) → (is_count l && nat_eq l.to 0) ≡ b → is_total_to barrier.here l ≡ false → HasRoom (cond b (with_count barrier l.from (sums_of l)) barrier) letters
     by_count true is other = record {
       known = omega (arith, more_known false other);
-      heard = λ from within. omega (arith, more_heard from within, one_heard barrier l.from from (sums_of l), same_test from);
+      heard = λ from within. omega (arith, more_heard from within, one_heard barrier l.from from (sums_of l), same_test from 1 0);
     }
       where
         by_from : (b : Bool) → (b && true) ≡ b
         by_from true = refl
         by_from false = refl
 
-        same_test : (from : ℕ) → cond {ℕ} (is_count_of from l) 1 0 ≡ cond (nat_eq l.from from) 1 0
-        same_test from =
-            rw (and_first (is_count l) (nat_eq l.to 0) is, and_second (is_count l) (nat_eq l.to 0) is) (same_if (by_from (nat_eq l.from from)) 1 0)
+        same_test : (from x y : ℕ) → cond (is_count_of from l) x y ≡ cond (nat_eq l.from from) x y
+        same_test from x y =
+            rw (and_first (is_count l) (nat_eq l.to 0) is, and_second (is_count l) (nat_eq l.to 0) is) (same_if (by_from (nat_eq l.from from)) x y)
     by_count false is other = record {
       known = omega (arith, more_known false other);
       heard = λ from within. omega (arith, more_heard from within);
