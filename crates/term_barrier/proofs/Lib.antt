@@ -4,6 +4,7 @@ pub mod Account
 pub mod CountedPlace
 pub mod CompleteRun
 pub mod Passed
+pub mod Links
 pub mod Left
 pub mod Served
 pub mod Barriers

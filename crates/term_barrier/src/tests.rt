@@ -51,6 +51,7 @@ fn the_laws_can_be_cited() {
     a_barrier_stays_in_agreement::<u64>();
     a_barrier_is_handed_control_letters();
     a_barrier_knows_the_rounds_of_its_log();
+    a_barrier_has_room_for_what_it_is_handed();
     all_is_settled_where_a_barrier_ended::<u64>();
     a_rank_alone_leaves_at_its_second_round();
 }
