@@ -3,3 +3,4 @@ pub mod HonestCount
 pub mod HonestTotal
 pub mod Log
 pub mod Agrees
+pub mod Due

@@ -1,7 +1,8 @@
 //! The Counts and Totals that a barrier puts break no rule of the world. Each law is the contract of a function that does
 //! nothing, and speaks of a log alone.
-ghost use Rattle.std.specs.Prelude.{◌≡◌, ◌≢◌, ◌+◌, ◌<◌, ℕ, true, is_some, None, List, [], ◌∷◌, ◌++◌};
-ghost use Rattle.msg_codec.specs.Control.{is_count, is_total, round_of, run_of, sent_of};
+ghost use Rattle.std.specs.Prelude.{◌≡◌, ◌≢◌, ◌+◌, ◌<◌, ◌≤◌, ℕ, true, is_some, None, List, [], ◌∷◌, ◌++◌};
+ghost use Rattle.msg_codec.specs.Control.{ControlFits, is_count, is_total, letter_of_control, round_of, run_of, sent_of};
+ghost use Rattle.msg_codec.specs.declared.control.Control.TheVariants.{Count, Total};
 ghost use Rattle.msg_codec.specs.declared.letter.Letter.{Letter};
 ghost use Rattle.world_core.specs.declared.entry.Entry.{Entry};
 ghost use Rattle.world_core.specs.declared.entry.Entry.TheVariants.{Put};
@@ -9,10 +10,14 @@ ghost use Rattle.world_core.specs.ControlRules.{is_free, run_taken, sent_taken};
 ghost use Rattle.world_core.specs.Counts.{count_taken, counts, totals};
 ghost use Rattle.world_core.specs.Local.{Local, having_put, to_forward};
 ghost use Rattle.world_core.specs.Pairs.{own_count, run_count};
-ghost use Rattle.world_core.specs.Rounds.{rounds_known};
+ghost use Rattle.world_core.specs.Post.{PostState, local_at};
+ghost use Rattle.world_core.specs.Rounds.{Sums, rounds_known};
 ghost use Rattle.world_core.specs.Rules.{first_broken};
 ghost use Rattle.world_core.specs.Rules.Deed.{Puts};
-ghost use Rattle.term_barrier.specs.Barriers.{BarrierAgrees, BarrierState, InRange, IsNextTotal, control_letters, with_count_put, with_total_put};
+ghost use Rattle.comm_rank.specs.Fold.{Applies};
+ghost use Rattle.comm_rank.specs.Rank.{IsIdle, Rank, local_of};
+ghost use Rattle.term_barrier.specs.Barriers.{BarrierAgrees, BarrierState, InRange, IsNextTotal, IsTotalDue, control_letters, round_sums, with_count_put, with_total_put};
+ghost use Rattle.term_barrier.specs.Polls.{Stands};
 
 /// A Count breaks no rule where it is of the round after those that its rank knows, and has the rank's counts, while the
 /// rank has nothing to forward.
@@ -59,4 +64,20 @@ pub fn a_barrier_that_puts_a_letter_stays_in_agreement()
     ensures total { (barrier : BarrierState) (me : Local) (l : Letter) → barrier.inside ≡ true → (to : ℕ) →
         is_total l ≡ true → InRange barrier → IsNextTotal barrier to → BarrierAgrees barrier [] me →
         BarrierAgrees (with_total_put barrier to) [] (having_put me to (l ∷ [])) }
+{}
+
+/// The Count that is due at an idle rank which knows each round before, and a Total that is due at rank 0, break no rule:
+/// where the barrier knows the rounds of its log, and has the sums of the Counts that the log took.
+pub fn a_barrier_puts_no_letter_that_breaks_a_rule<C>()
+    ensures count { (apply : Applies C) (start : C → C) (barrier : BarrierState) (me : Rank C) (post : PostState) →
+        Stands apply start barrier me post → InRange barrier → me.controls ≡ [] →
+        barrier.known ≡ rounds_known me.here (post.log me.here) → IsIdle me → barrier.counted ≤ barrier.known →
+        ControlFits (Count me.here barrier.counted me.sent_count me.run_count) →
+        first_broken (local_at post me.here) (Puts 0 (letter_of_control (Count me.here barrier.counted me.sent_count me.run_count) ∷ [])) ≡ None }
+    ensures total { (apply : Applies C) (start : C → C) (barrier : BarrierState) (me : Rank C) (post : PostState) →
+        Stands apply start barrier me post → InRange barrier → me.controls ≡ [] → (to : ℕ) (sums : Sums) →
+        (round_sums barrier).sent ≡ sent_taken (local_of me (post.log me.here)) barrier.over →
+        (round_sums barrier).run ≡ run_taken (local_of me (post.log me.here)) barrier.over → me.here ≡ 0 →
+        IsTotalDue barrier to sums → ControlFits (Total to barrier.over sums.sent sums.run) →
+        first_broken (local_at post 0) (Puts to (letter_of_control (Total to barrier.over sums.sent sums.run) ∷ [])) ≡ None }
 {}
