@@ -10,3 +10,4 @@ pub mod Served
 pub mod Barriers
 pub mod Hearing
 pub mod Puts
+pub mod Sums

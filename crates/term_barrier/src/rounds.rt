@@ -7,7 +7,7 @@ ghost use Rattle.world_core.specs.Rules.{first_broken};
 ghost use Rattle.world_core.specs.Rules.Deed.{Puts};
 ghost use Rattle.comm_rank.specs.declared.fault.CommFault.TheVariants.{NoMemory};
 ghost use Rattle.comm_rank.specs.Rank.{IsIdle, held_letters};
-ghost use Rattle.term_barrier.specs.Barriers.{HasHeardAll, HasPutTotals, IsMissing, IsTotalDue, round_sums, with_total_put};
+ghost use Rattle.term_barrier.specs.Barriers.{HasHeardAll, HasPutTotals, IsMissing, IsTotalDue, heard_of, round_sums, sums_heard_at, with_total_put};
 ghost use Rattle.term_barrier.specs.Polls.{FoundFull, HasPutControls, PutsLetter, Stands};
 
 use crate::Barrier;
@@ -84,7 +84,20 @@ impl Barrier {
         None
     }
 
-    /// The sums of the round that comes after those that are over.
+    /// The sums that a rank counted in the round after those that are over: the last that was heard of it, or those before.
+    fn heard_sums(&self, rank: u32) -> RoundSums
+        requires { rank < self.now.layout.ranks }
+        ensures { result ≡ sums_heard_at self.now.over (heard_of self.now rank) }
+    {
+        let one = &self.heard[rank as usize];
+        if one.rounds == self.over + 1 {
+            one.last
+        } else {
+            one.before
+        }
+    }
+
+    /// The sums of that round over all ranks.
     fn round_sums(&self) -> RoundSums
         requires few { (round_sums self.now).sent ≤ most_arrived }
         requires few_run { (round_sums self.now).run ≤ most_arrived }
@@ -93,12 +106,7 @@ impl Barrier {
         let mut sent = 0;
         let mut run = 0;
         for rank in 0..self.layout.ranks() {
-            let one = &self.heard[rank as usize];
-            let sums = if one.rounds == self.over + 1 {
-                one.last
-            } else {
-                one.before
-            };
+            let sums = self.heard_sums(rank);
             sent += sums.sent;
             run += sums.run;
         }
