@@ -8,4 +8,5 @@ pub mod Links
 pub mod Left
 pub mod Served
 pub mod Barriers
+pub mod Hearing
 pub mod Puts
