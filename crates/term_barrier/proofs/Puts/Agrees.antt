@@ -45,7 +45,8 @@ put_next over next to rank is some = grind (arith, nat_tests)
 
 module _ (barrier : BarrierState) (me : Local) (l : Letter) (inside : barrier.inside ≡ true) (to : ℕ) (total : is_total l ≡ true) where
   -- where that is one more to this rank,
-  with_totals : (over next : ℕ) → ((rank : ℕ) → rank < barrier.layout.ranks → put_of over next rank ≡ totals_put barrier rank + cond (nat_eq to rank) 1 0) →
+  with_totals : (over next : ℕ) →
+      ((rank : ℕ) → rank < barrier.layout.ranks → put_of over next rank ≡ totals_put barrier rank + cond (nat_eq to rank) 1 0) →
       BarrierAgrees barrier [] me → BarrierAgrees (record barrier { over = over; next = next }) [] (having_put me to (l ∷ []))
   with_totals over next more agrees = record {
     layout = agrees.layout;
@@ -67,14 +68,19 @@ module _ (barrier : BarrierState) (me : Local) (l : Letter) (inside : barrier.in
     outside = λ outside. absurd (false≢true (sym outside ∙ inside));
   }
 
-  pub agrees_total : InRange barrier → IsNextTotal barrier to → BarrierAgrees barrier [] me → BarrierAgrees (with_total_put barrier to) [] (having_put me to (l ∷ []))
+  pub agrees_total : InRange barrier → IsNextTotal barrier to → BarrierAgrees barrier [] me →
+      BarrierAgrees (with_total_put barrier to) [] (having_put me to (l ∷ []))
   agrees_total range next agrees = by_rank (nat_eq to 0) refl
     where
       by_rank : (first : Bool) → nat_eq to 0 ≡ first →
-          BarrierAgrees (cond first (record barrier { over = barrier.over + 1; next = 1 }) (record barrier { next = to + 1 })) [] (having_put me to (l ∷ []))
+          BarrierAgrees (cond first (record barrier { over = barrier.over + 1; next = 1 }) (record barrier { next = to + 1 })) []
+          (having_put me to (l ∷ []))
       by_rank true first =
           let is : to ≡ 0 = eqb-true _ _ first in
-          let all : barrier.layout.ranks ≤ barrier.next = elim next [ inl one ↦ absurd (omega (arith, one.0, is, range.next_within.0)) | inr last ↦ omega (arith, last.1) ] in
+          let all : barrier.layout.ranks ≤ barrier.next = elim next [
+            | inl one ↦ absurd (omega (arith, one.0, is, range.next_within.0))
+            | inr last ↦ omega (arith, last.1)
+          ] in
           with_totals (barrier.over + 1) 1 (λ rank within. put_last barrier.over barrier.next to rank is (omega (arith, within, all))) agrees
       by_rank false other =
           let is : to ≡ barrier.next = elim next [ inl one ↦ one.0 | inr last ↦ absurd (false≢true (sym other ∙ eq-eqb _ _ last.0)) ] in

@@ -26,7 +26,8 @@ knows_before : (me : Local) (q : ℕ) → q ≡ rounds_known me.here me.log → 
 unfolding rounds_known
 knows_before me zero is = refl
 knows_before me (suc q) is =
-    let known : is_some (total_taken me.here q me.log) ≡ true = row_passes (λ r. is_some (total_taken me.here r me.log)) (length (letters_taken me.log)) q (omega (arith, is)) in
+    let known : is_some (total_taken me.here q me.log) ≡ true =
+    row_passes (λ r. is_some (total_taken me.here r me.log)) (length (letters_taken me.log)) q (omega (arith, is)) in
     passes_second (nat_lt 0 (suc q)) (is_some (total_taken me.here q me.log)) known
 
 not_early : (me : Local) (to : ℕ) (l : Letter) → is_count l ≡ true → round_of l ≡ counts me.log → counts me.log ≡ rounds_known me.here me.log →
@@ -67,5 +68,6 @@ pub honest_count : (me : Local) (l : Letter) → me.here < me.layout.ranks → i
     first_broken me (Puts 0 (l ∷ [])) ≡ None
 honest_count me l within count from to round sent run known none =
     one_control me 0 l (control_count l count) within (omega (arith, within)) (omega (arith, within, to)) (omega (arith, within, from))
-    ∙ sym (count_table me (round_of l) (sent_of l) (run_of l) l (record { count = count; from = from; to = to; round = refl; sent = refl; run = refl })
+    ∙ sym (count_table me (round_of l) (sent_of l) (run_of l) l
+    (record { count = count; from = from; to = to; round = refl; sent = refl; run = refl })
     false false false (not_early me 0 l count round known) (nothing_held me none) (not_wrong me 0 l count sent run))

@@ -36,5 +36,6 @@ pub honest_total : (me : Local) (to : ℕ) (l : Letter) → me.here ≡ 0 → to
     sent_of l ≡ sent_taken me (round_of l) → run_of l ≡ run_taken me (round_of l) → first_broken me (Puts to (l ∷ [])) ≡ None
 honest_total me to l first within total from there round every sent run =
     one_control me to l (control_total l total) (omega (arith, first, within)) within (omega (arith, within, there)) (omega (arith, within, from))
-    ∙ sym (total_table me first to (round_of l) (sent_of l) (run_of l) l (record { total = total; from = from; to = there; round = refl; sent = refl; run = refl })
+    ∙ sym (total_table me first to (round_of l) (sent_of l) (run_of l) l
+    (record { total = total; from = from; to = there; round = refl; sent = refl; run = refl })
     false false (not_early me to l total round every) (not_wrong me to l total sent run))

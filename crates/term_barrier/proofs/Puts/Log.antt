@@ -1,9 +1,7 @@
 -- What a log has after one control letter was put: one Count more, or one Total more to its rank. What it took is
 -- unchanged.
-use Rattle.std.proofs.Common.{◌≡◌, ◌≢◌, ℕ, ◌+◌, Bool, true, false, cond, ◌||◌, nat_eq, eq-eqb, ne_eqb, Some, List, [], ◌∷◌, ◌++◌, length, slice_get, refl, ap, ◌∙◌, sym, arith, length-append}
+use Rattle.std.proofs.Common.{◌≡◌, ◌≢◌, ℕ, ◌+◌, Bool, true, false, cond, ◌||◌, nat_eq, eq-eqb, ne_eqb, List, [], ◌∷◌, ◌++◌, refl, ap, ◌∙◌, arith}
 use Rattle.std.specs.List.{filter}
-use Rattle.std.proofs.Math.Seq.{take-append_seam}
-use Rattle.std.proofs.lemmas.List.{take_all}
 use Rattle.list_facts.proofs.Sums.{sum_upto-same}
 use Rattle.msg_codec.specs.Control.{is_control, is_count, is_total}
 use Rattle.msg_codec.specs.declared.letter.Letter.{Letter}
@@ -14,11 +12,11 @@ use Rattle.world_core.specs.Counts.{counts, totals}
 use Rattle.world_core.specs.Local.{Local, having_put}
 use Rattle.world_core.specs.Rounds.{sums_in}
 use Rattle.world_core.proofs.Counts.AfterPut.{count_taken-put, counts-none, counts-one, is_free-put}
-use Rattle.world_core.proofs.Counts.Stepwise.{totals_next}
 use Rattle.world_core.proofs.Deeds.Unmixed.{not_both}
 use Rattle.world_core.proofs.Log.Appended.{letters_taken-put}
 use Rattle.comm_rank.proofs.Agrees.AfterControl.{not_count}
 use Rattle.term_barrier.specs.Barriers.{control_letters}
+use Rattle.term_barrier.proofs.Barriers.Agrees.{totals-append}
 
 -- ---- Counts
 
@@ -34,18 +32,6 @@ counts-total log to l total = counts-none log (Put to (l ∷ [])) (alone (is_cou
 
 -- ---- Totals
 
-seam : (log : List Entry) (e : Entry) → slice_get (log ++ e ∷ []) (length log) ≡ Some e
-seam [] e = refl
-seam (x ∷ log) e = seam log e
-
-totals-last : (rank : ℕ) (log : List Entry) (e : Entry) → totals rank (log ++ e ∷ []) ≡ totals rank log + totals rank (e ∷ [])
-totals-last rank log e =
-    let whole = log ++ e ∷ [] in
-    let n = length log in
-    ap (totals rank) (sym (take_all (n + 1) whole (omega (arith, length-append log (e ∷ [])))))
-    ∙ totals_next rank whole n e (seam log e)
-    ∙ ap (λ xs. totals rank xs + totals rank (e ∷ [])) (take-append_seam log (e ∷ []))
-
 totals_of : (rank to : ℕ) (l : Letter) (here total : Bool) → nat_eq to rank ≡ here → is_total l ≡ total →
     totals rank (Put to (l ∷ []) ∷ []) ≡ cond here (cond total 1 0) 0
 totals_of rank to l true true h t = rw (h, t) refl
@@ -56,7 +42,7 @@ totals_of rank to l false total h t = rw h refl
 pub totals-total : (rank to : ℕ) (log : List Entry) (l : Letter) → is_total l ≡ true →
     totals rank (log ++ Put to (l ∷ []) ∷ []) ≡ totals rank log + cond (nat_eq to rank) 1 0
 totals-total rank to log l total =
-    totals-last rank log (Put to (l ∷ [])) ∙ ap (λ n. totals rank log + n) (totals_of rank to l (nat_eq to rank) true refl total)
+    totals-append rank log (Put to (l ∷ []) ∷ []) ∙ ap (λ n. totals rank log + n) (totals_of rank to l (nat_eq to rank) true refl total)
 
 pub totals-there : (to : ℕ) (log : List Entry) (l : Letter) → is_total l ≡ true → totals to (log ++ Put to (l ∷ []) ∷ []) ≡ totals to log + 1
 totals-there to log l total = totals-total to to log l total ∙ ap (λ b. totals to log + cond b 1 0) (eq-eqb to to refl)
@@ -65,7 +51,8 @@ none_more : (n : ℕ) → n + 0 ≡ n
 none_more n = omega arith
 
 -- and no more to others
-pub totals-other : (rank to : ℕ) (log : List Entry) (l : Letter) → is_total l ≡ true → to ≢ rank → totals rank (log ++ Put to (l ∷ []) ∷ []) ≡ totals rank log
+pub totals-other : (rank to : ℕ) (log : List Entry) (l : Letter) → is_total l ≡ true → to ≢ rank →
+    totals rank (log ++ Put to (l ∷ []) ∷ []) ≡ totals rank log
 totals-other rank to log l total other =
     totals-total rank to log l total ∙ ap (λ b. totals rank log + cond b 1 0) (ne_eqb to rank other) ∙ none_more (totals rank log)
 
@@ -77,7 +64,7 @@ pub totals-count : (rank to : ℕ) (log : List Entry) (l : Letter) → is_count 
 totals-count rank to log l count =
     let none : totals rank (Put to (l ∷ []) ∷ []) ≡ 0 =
     totals_of rank to l (nat_eq to rank) false refl (not_both l count) ∙ same_either (nat_eq to rank) 0 in
-    omega (arith, totals-last rank log (Put to (l ∷ [])), none)
+    omega (arith, totals-append rank log (Put to (l ∷ []) ∷ []), none)
 
 -- ---- what it took
 
