@@ -58,7 +58,7 @@ impl Handler for Relay {
         if (l.tag == 1) && (nat_lt l.from ranks)
         then record { to = l.from; tag = 0; body = l.body } ∷ record { to = l.from; tag = 0; body = [] } ∷ []
         else if (l.tag == 2) && (nat_lt 0 first && nat_lt next ranks)
-        then record { to = next; tag = 2; body = first - 1 ∷ [] } ∷ []
+        then record { to = next; tag = 2; body = (first - 1) ∷ [] } ∷ []
         else [],
       ) };
 

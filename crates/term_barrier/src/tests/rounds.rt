@@ -1,4 +1,5 @@
 //! The rounds at which ranks leave their barriers, and what ran before.
+ghost use Rattle.std.specs.Prelude.{◌<◌};
 
 use super::ranks::{Ranks, ranks_of, same};
 use super::relay::{ASK, NOTE, PASS};
@@ -118,7 +119,9 @@ fn sums_that_agree_while_a_letter_is_on_its_way_end_no_barrier(
 }
 
 // Each of three ranks sends the next a letter that is passed on ten times. So each rank runs eleven, and sends as many.
-fn pass_round(rt: &impl Abort, ranks: &mut Ranks, barrier: u64) -> Result<(), Fail> {
+fn pass_round(rt: &impl Abort, ranks: &mut Ranks, barrier: u64) -> Result<(), Fail>
+    requires { barrier < 3 }
+{
     ranks.send(0, 1, PASS, &[10])?;
     ranks.send(1, 2, PASS, &[10])?;
     ranks.send(2, 0, PASS, &[10])?;
