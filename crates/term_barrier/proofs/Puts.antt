@@ -4,3 +4,4 @@ pub mod HonestTotal
 pub mod Log
 pub mod Agrees
 pub mod Due
+pub mod Moved
