@@ -7,7 +7,7 @@ ghost use Rattle.world_core.specs.Rules.{first_broken};
 ghost use Rattle.world_core.specs.Rules.Deed.{Puts};
 ghost use Rattle.comm_rank.specs.declared.fault.CommFault.TheVariants.{NoMemory};
 ghost use Rattle.comm_rank.specs.Rank.{IsIdle, held_letters};
-ghost use Rattle.term_barrier.specs.Barriers.{HasHeardAll, HasPutTotals, IsMissing, IsTotalDue, heard_of, round_sums, sums_heard_at, with_total_put};
+ghost use Rattle.term_barrier.specs.Barriers.{HasHeardAll, HasPutTotals, IsMissing, IsNextTotal, IsTotalDue, heard_of, round_sums, sums_heard_at, with_total_put};
 ghost use Rattle.term_barrier.specs.Polls.{FoundFull, HasPutControls, PutsLetter, Stands};
 
 use crate::Barrier;
@@ -113,6 +113,20 @@ impl Barrier {
         RoundSums { sent, run }
     }
 
+    /// Notes that the Total of that round was put to a rank. After that to itself, the round is over.
+    fn has_put_total(&mut self, to: u32)
+        requires next { IsNextTotal self.old to }
+        requires counted { self.old.over < self.old.counted }
+        ensures noted { self.new ≡ with_total_put self.old to }
+    {
+        if to == 0 {
+            self.over += 1;
+            self.next = 1;
+        } else {
+            self.next = to + 1;
+        }
+    }
+
     /// Puts the Total of that round, with these sums, to the rank that is next. It returns whether the link wasn't full.
     fn put_total<H: Handler, P: Post>(
         &mut self,
@@ -139,14 +153,11 @@ impl Barrier {
             s: sums.sent,
             r: sums.run,
         };
-        let put = put_letter(post, self.alloc, self.here, to, total)?;
-        if put && to == 0 {
-            self.over += 1;
-            self.next = 1;
-        } else if put {
-            self.next = to + 1;
+        if !put_letter(post, self.alloc, self.here, to, total)? {
+            return Ok(false);
         }
-        Ok(put)
+        self.has_put_total(to);
+        Ok(true)
     }
 
     /// At rank 0, where it has the Counts of all ranks of the present round, puts the Total of that round to the other

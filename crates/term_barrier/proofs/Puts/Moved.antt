@@ -1,5 +1,5 @@
 -- What a put of a control letter does to a barrier, its rank and the post.
-use Rattle.std.proofs.Common.{◌≡◌, ◌≢◌, ℕ, ◌+◌, ◌<◌, ◌≤◌, Bool, true, false, nat_eq, eqb-true, None, List, [], ◌∷◌, ◌++◌, refl, sym, ap, ◌∙◌, subst, append-nil, inl, inr, arith}
+use Rattle.std.proofs.Common.{◌≡◌, ◌≢◌, ℕ, ◌+◌, ◌<◌, ◌≤◌, ◌^◌, Bool, true, false, nat_eq, eqb-true, None, List, [], ◌∷◌, ◌++◌, refl, sym, ap, ◌∙◌, subst, append-nil, inl, inr, arith}
 use Rattle.std.specs.Bool.{IsTrue}
 use Rattle.std.proofs.lemmas.Bool.{eqb-false}
 use Rattle.msg_codec.specs.Control.{ControlFits, is_control, is_count, is_total, letter_of_control, spelled_counts}
@@ -9,6 +9,7 @@ use Rattle.msg_codec.specs.declared.letter.Letter.{Letter}
 use Rattle.world_core.specs.declared.entry.Entry.{Entry}
 use Rattle.world_core.specs.declared.entry.Entry.TheVariants.{Put}
 use Rattle.world_core.specs.Counts.{counts}
+use Rattle.world_core.specs.Limits.{most_arrived}
 use Rattle.world_core.specs.Local.{having_put}
 use Rattle.world_core.specs.Pairs.{of_sender}
 use Rattle.world_core.specs.Post.{FullsRise, PostState, PutDone, PutFoundFull, PutKeeps, SameFulls, SamePost, local_at}
@@ -21,8 +22,9 @@ use Rattle.comm_rank.specs.Moves.{MoveKeeps}
 use Rattle.comm_rank.specs.Rank.{IsIdle, Rank, held_letters, local_of}
 use Rattle.comm_rank.proofs.Agrees.AfterControl.{put_count, put_total}
 use Rattle.comm_rank.proofs.Moves.OnePut.{honest_put, move_keeps}
-use Rattle.term_barrier.specs.Barriers.{BarrierAgrees, BarrierState, InRange, IsTotalDue, with_count_put, with_total_put}
+use Rattle.term_barrier.specs.Barriers.{BarrierAgrees, BarrierState, HasEveryCount, InRange, IsTotalDue, round_sums, with_count_put, with_total_put}
 use Rattle.term_barrier.specs.Polls.{HasPutControls, Stands}
+use Rattle.term_barrier.proofs.Barriers.Rounds.{sums_are}
 use Rattle.term_barrier.proofs.Puts.Agrees.{agrees_count, agrees_total}
 use Rattle.term_barrier.proofs.Puts.Due.{count_due, total_due}
 use Rattle.term_barrier.proofs.Puts.Log.{is_free-total}
@@ -191,8 +193,22 @@ module _ {C : Type 0} (apply : Applies C) (start : C → C) (barrier : BarrierSt
   abbrev this_total : ℕ → Sums → Letter
   this_total to sums = letter_of_control (Total to barrier.over sums.sent sums.run)
 
-  module _ (first : barrier.here ≡ 0) (to : ℕ) (sums : Sums) (due : IsTotalDue barrier to sums)
-      (fits : ControlFits (Total to barrier.over sums.sent sums.run)) where
+  pub few_sums : HasEveryCount barrier → ((round_sums barrier).sent ≤ most_arrived) × ((round_sums barrier).run ≤ most_arrived)
+  few_sums every =
+      let modest = stands.belongs.agrees.modest in
+      let all = sums_are barrier (local_of me (before.log me.here)) modest one range every in
+      (omega (arith, all.0, modest.control.few_sent barrier.over), omega (arith, all.1, modest.control.few_run barrier.over))
+
+  module _ (first : barrier.here ≡ 0) (to : ℕ) (sums : Sums) (due : IsTotalDue barrier to sums) (to_fits : to < 2 ^ 32) where
+    fits : ControlFits (Total to barrier.over sums.sent sums.run)
+    fits =
+        let few = few_sums due.every in
+        (to_fits, record {
+          round_fits = omega (arith, due.counted, range.counted_few, range.few);
+          sent_fits = omega (arith, few.0, ap (λ (s : Sums). s.sent) due.sums_are);
+          run_fits = omega (arith, few.1, ap (λ (s : Sums). s.run) due.sums_are);
+        })
+
     pub total_unbroken : first_broken (local_at before barrier.here) (Puts to (this_total to sums ∷ [])) ≡ None
     total_unbroken =
         subst (λ h. first_broken (local_at before h) (Puts to (this_total to sums ∷ [])) ≡ None) (sym first)
