@@ -4,6 +4,11 @@ pub mod Account
 pub mod CountedPlace
 pub mod CompleteRun
 pub mod Passed
+pub mod Links
 pub mod Left
 pub mod Served
 pub mod Barriers
+pub mod Hearing
+pub mod Puts
+pub mod Sums
+pub mod Waited

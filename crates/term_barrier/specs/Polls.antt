@@ -1,6 +1,7 @@
 -- What a poll does to a rank and its log, and what it returns.
 use Rattle.std.specs.Prelude.{◌≡◌, ◌⊎◌, ℕ, pred, ◌+◌, ◌<◌, ◌≤◌, IsTrue, Bool, false, true, is_some, List, [], ◌∷◌, ◌++◌, Option, None, Some}
 use Rattle.std.specs.List.{AllByRecursion}
+use Rattle.list_facts.specs.Prefix.{IsPrefix}
 use Rattle.msg_codec.specs.Control.{is_control}
 use Rattle.msg_codec.specs.declared.letter.Letter.{Letter}
 use Rattle.world_core.specs.declared.entry.Entry.{Entry}
@@ -14,10 +15,11 @@ use Rattle.comm_rank.specs.declared.fault.CommFault.{CommFault}
 use Rattle.comm_rank.specs.declared.fault.CommFault.TheVariants.{NoMemory}
 use Rattle.comm_rank.specs.declared.turn.Turn.{Turn}
 use Rattle.comm_rank.specs.Agrees.{Belongs, MayTurn}
+use Rattle.comm_rank.specs.Fault.{IfStopped, UnlessStopped}
 use Rattle.comm_rank.specs.Fold.{Applies}
 use Rattle.comm_rank.specs.Moves.{MoveKeeps}
-use Rattle.comm_rank.specs.Rank.{Rank, held_letters, local_of}
-use Rattle.comm_rank.specs.Turns.{HasFailed, LookedAt, Turned}
+use Rattle.comm_rank.specs.Rank.{IsSameRank, Rank, held_letters, local_of}
+use Rattle.comm_rank.specs.Turns.{Advanced, HasFailed, HasHalted, KeepsPost, LookedAt, Turned}
 use Rattle.term_barrier.specs.declared.polled.Polled.{Polled}
 use Rattle.term_barrier.specs.declared.polled.Polled.TheVariants.{Left, Waiting as Waits}
 use Rattle.term_barrier.specs.declared.polled.Waiting.{Waiting}
@@ -182,3 +184,38 @@ pub record IsSameBarrier (old new : BarrierState) : Type 0 where
   pub layout : new.layout ≡ old.layout
   pub here : new.here ≡ old.here
   pub rounds : new.rounds ≡ old.rounds
+
+-- ---- the outcomes of a whole barrier
+
+-- Polls that waited: the rank is still inside the barrier that it entered, and these letters ran since.
+pub record HasWaited {C : Type 0} (apply : Applies C) (start : C → C) (old new : BarrierState) (one me : Rank C) (before after : PostState) : Type 0 where
+  pub run : List Letter
+  pub advanced : Advanced apply one me (before.log one.here) (after.log one.here) run
+  pub grown : IsPrefix (before.log one.here) (after.log one.here)
+  pub stands : Stands apply start new me after
+  pub same : IsSameBarrier old new
+  pub waits : PolledWaiting old new
+  pub going : me.stopped ≡ false
+  pub same_rank : IsSameRank one me
+  pub keeps : KeepsPost one before after
+  pub stops : SameStops before after
+  pub halts : after.halts ≡ before.halts
+
+-- A barrier that a rank entered and left, of this number and at this round. These letters ran meanwhile.
+pub record BarrierEnded {C : Type 0} (apply : Applies C) (start : C → C) (old new : BarrierState) (one me : Rank C) (before after : PostState) (number round : ℕ) : Type 0 where
+  pub run : List Letter
+  pub advanced : Advanced apply one me (before.log one.here) (after.log one.here) run
+  pub grown : IsPrefix (before.log one.here) (after.log one.here)
+  pub stands : Stands apply start new me after
+  pub left : PolledLeft old new (local_of me (after.log one.here)) number round
+  pub stops : SameStops before after
+  pub halts : after.halts ≡ before.halts
+
+-- A barrier that ended with a fault: after polls that waited, one failed. It met the stop, or failed itself.
+pub record BarrierFailed {C : Type 0} (apply : Applies C) (start : C → C) (old : BarrierState) (one me : Rank C) (before after : PostState) (fault : CommFault) : Type 0 where
+  pub barrier : BarrierState
+  pub rank : Rank C
+  pub post : PostState
+  pub waited : HasWaited apply start old barrier one rank before post
+  pub halted : IfStopped fault (HasHalted rank me post after)
+  pub failed : UnlessStopped fault (PollFailed apply rank me post after fault)

@@ -1,21 +1,10 @@
--- What handlers gave by letters that arrived before a Count, and what a barrier makes of that.
-use Rattle.std.specs.Prelude.{◌≡◌, ℕ, ◌<◌, List}
+-- What is settled where a barrier ended.
+use Rattle.std.specs.Prelude.{◌≡◌, ℕ, ◌<◌}
 use Rattle.list_facts.specs.Sublist.{IsSublist}
-use Rattle.world_core.specs.declared.entry.Entry.{Entry}
-use Rattle.world_core.specs.Counts.{before_count, counts}
 use Rattle.world_core.specs.Pairs.{arrived, of_pair, pair_put, pair_taken}
 use Rattle.world_core.specs.Wave.{cut}
 use Rattle.world_core.specs.World.{Logs}
 use Rattle.comm_rank.specs.Fold.{Applies, handed_from}
-use Rattle.term_barrier.specs.Account.{RankHandler}
-
--- A log is served: whatever the handler gave for a rank, by the letters that arrived before a Count, was put for that rank
--- before that Count, in order.
-abbrev pub IsServed : {C : Type 0} → RankHandler C → List Entry → Type 0
-IsServed handler log = (c to : ℕ) → c < counts log →
-    IsSublist
-    (of_pair handler.here to (handed_from handler.apply handler.here handler.ranks handler.start (arrived handler.here (before_count c log))))
-    (pair_put handler.here to (before_count c log))
 
 -- At the cut of a round all is settled. The letters from a rank to a rank that were put before the cut arrived before it,
 -- each once and in order, and no others did. Whatever the handler of a rank gave for a rank, by letters that arrived before

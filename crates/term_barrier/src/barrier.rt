@@ -1,6 +1,7 @@
 //! The barrier of one rank.
 ghost use Rattle.std.specs.Prelude.{◌≡◌, ◌<◌, true, false, [], ◌∷◌, IfOk};
 ghost use Rattle.msg_codec.specs.Control.{letter_of_control};
+ghost use Rattle.msg_codec.specs.declared.control.Control.TheVariants.{Count, Total};
 ghost use Rattle.term_barrier.specs.Barriers.{HasRoom, fresh_barrier, with_letter, with_letters, with_total};
 
 use crate::heard::{Heard, RoundSums};
@@ -99,29 +100,43 @@ impl Barrier {
         }
     }
 
-    /// Takes in a control letter. One that no rank of its world would send is ignored.
+    /// Takes in a control letter.
     fn hear(&mut self, control: Control)
         requires room { HasRoom self.old (letter_of_control control ∷ []) }
         ensures heard { self.new ≡ with_letter self.old (letter_of_control control) }
     {
         match control {
-            Control::Count { rank, s, r, .. } => {
-                if let Some(one) = self.heard.get_mut(rank as usize) {
-                    one.hear(RoundSums { sent: s, run: r });
-                }
-            }
-            Control::Total { to, s, r, .. } => {
-                if to == self.here {
-                    self.hear_total(RoundSums { sent: s, run: r });
-                }
-            }
+            Control::Count { rank, q, s, r } => self.hear_count(rank, q, s, r),
+            Control::Total { to, q, s, r } => self.hear_total(to, q, s, r),
+        }
+    }
+
+    /// Takes in a Count. That of a rank which isn't one of its world is ignored.
+    fn hear_count(&mut self, rank: u32, q: u64, s: u64, r: u64)
+        requires room { HasRoom self.old (letter_of_control (Count rank q s r) ∷ []) }
+        ensures heard { self.new ≡ with_letter self.old (letter_of_control (Count rank q s r)) }
+    {
+        let _ = q;
+        if (rank as usize) < self.heard.len() {
+            self.heard[rank as usize].hear(RoundSums { sent: s, run: r });
+        }
+    }
+
+    /// Takes in a Total. That to another rank is ignored.
+    fn hear_total(&mut self, to: u32, q: u64, s: u64, r: u64)
+        requires room { HasRoom self.old (letter_of_control (Total to q s r) ∷ []) }
+        ensures heard { self.new ≡ with_letter self.old (letter_of_control (Total to q s r)) }
+    {
+        let _ = q;
+        if to == self.here {
+            self.know(RoundSums { sent: s, run: r });
         }
     }
 
     /// Takes in the sums of the next round, which ends the barrier or not.
-    fn hear_total(&mut self, sums: RoundSums)
+    fn know(&mut self, sums: RoundSums)
         requires room { self.old.known < self.old.counted }
-        ensures heard { self.new ≡ with_total self.old sums }
+        ensures known { self.new ≡ with_total self.old sums }
     {
         if self.first < self.known && self.last.agrees(sums) {
             self.left += 1;

@@ -9,15 +9,15 @@
 //!
 //! A rank learns from the Totals that it took at which round it left a barrier. That round is the same for all ranks, and
 //! gives each the place of the barrier's quiet cut in its own log.
-ghost use Rattle.std.specs.Prelude.{◌≡◌, ◌+◌, ◌<◌, ◌≤◌, ℕ, suc, pred, true, false, IsTrue, List, [], ◌∷◌, ◌++◌, drop, length, option_map, slice_get, take, sum_by};
+ghost use Rattle.std.specs.Prelude.{◌≡◌, ◌⊎◌, ◌+◌, ◌-◌, ◌<◌, ◌≤◌, ℕ, suc, pred, true, false, IsTrue, None, is_some, List, [], ◌∷◌, ◌++◌, drop, length, take, sum_by};
 ghost use Rattle.std.specs.List.{AllByRecursion};
 ghost use Rattle.list_facts.specs.Sublist.{IsSublist};
 ghost use Rattle.msg_codec.specs.declared.letter.Letter.{Letter};
 ghost use Rattle.ygm_route.specs.declared.scheme.Scheme.{Scheme};
 ghost use Rattle.ygm_route.specs.Layout.{Shape};
 ghost use Rattle.world_core.specs.declared.entry.Entry.{Entry};
-ghost use Rattle.world_core.specs.ControlRules.{is_counted};
-ghost use Rattle.world_core.specs.Counts.{before_count, count_taken, counts, is_count_of, is_total_to, totals};
+ghost use Rattle.world_core.specs.ControlRules.{is_counted, run_taken, sent_taken};
+ghost use Rattle.world_core.specs.Counts.{before_count, count_taken, counts, totals};
 ghost use Rattle.world_core.specs.Local.{Local, having_put, local_rank};
 ghost use Rattle.world_core.specs.Log.{letters_put, letters_taken};
 ghost use Rattle.world_core.specs.Modest.{IsModest};
@@ -27,12 +27,12 @@ ghost use Rattle.world_core.specs.Rounds.{barrier_start, rounds_known, sums_told
 ghost use Rattle.world_core.specs.Wave.{EndsBarrier, IsComplete, IsQuiet, sums_at};
 ghost use Rattle.world_core.specs.World.{Logs, local, log_of};
 ghost use Rattle.comm_rank.specs.declared.turn.Turn.{Turn};
-ghost use Rattle.comm_rank.specs.Agrees.{Agrees};
+ghost use Rattle.comm_rank.specs.Agrees.{Agrees, IsServed};
 ghost use Rattle.comm_rank.specs.Fold.{Applies, fold_from};
 ghost use Rattle.comm_rank.specs.Rank.{HasSent, IsSameRank, Rank, held_letters, local_of};
 ghost use Rattle.comm_rank.specs.Turns.{Turned};
 ghost use Rattle.term_barrier.specs.Account.{Account, IsUpToDate, RankHandler, handler_at, handler_of, with_more};
-ghost use Rattle.term_barrier.specs.Barriers.{AreItsRounds, BarrierAgrees, BarrierState, control_letters, counts_heard, fresh_barrier, sums_of, with_count, with_total};
+ghost use Rattle.term_barrier.specs.Barriers.{AreItsRounds, BarrierAgrees, BarrierState, HasEveryCount, HasRoom, InRange, control_letters, fresh_barrier, heard_of, round_sums, with_letter, with_letters};
 ghost use Rattle.term_barrier.specs.CompleteRun.{IsCompleteRun, OwnLetters, earlier};
 ghost use Rattle.term_barrier.specs.CountedPlace.{AreCountedPlaces, IsCountedPlace, MovesNone};
 ghost use Rattle.term_barrier.specs.Cuts.{AreQuietCuts, IsQuietCut, arrivals_of, phase_part, phase_start};
@@ -40,7 +40,7 @@ ghost use Rattle.term_barrier.specs.Left.{HasLeft, HaveLeft, barriers_left, gain
 ghost use Rattle.term_barrier.specs.Merge.{IsMerge};
 ghost use Rattle.term_barrier.specs.Passed.{HasPassed, LevelsRise, TookPrefixes};
 ghost use Rattle.term_barrier.specs.Polls.{HasPolled};
-ghost use Rattle.term_barrier.specs.Served.{IsServed, IsSettledCut};
+ghost use Rattle.term_barrier.specs.Served.{IsSettledCut};
 ghost use Rattle.term_barrier.specs.Worked.{lone_rank};
 
 use comm_rank::Handler;
@@ -315,22 +315,23 @@ pub fn a_barrier_stays_in_agreement<C>()
         BarrierAgrees new kept me }
 {}
 
-/// The rounds of a barrier, after it was handed the Total of the next round, or at rank 0 a Count: of a rank from which it
-/// was handed the Counts of all rounds that are over.
+/// The rounds of a barrier that was handed letters, of whatever kind, are those of these letters too. So after it was
+/// handed all that its rank keeps, it agrees with the log and nothing is kept.
 pub fn a_barrier_is_handed_control_letters()
-    ensures total { (barrier : BarrierState) (letters : List Letter) (log : List Entry) (l : Letter) →
-        is_total_to barrier.here l ≡ true → AreItsRounds barrier letters log →
-        AreItsRounds (with_total barrier (sums_of l)) (letters ++ l ∷ []) log }
-    ensures count { (barrier : BarrierState) (letters : List Letter) (log : List Entry) (l : Letter) →
-        is_count_of l.from l ≡ true → AreItsRounds barrier letters log →
-        totals 0 log ≤ length (counts_heard l.from letters) →
-        AreItsRounds (with_count barrier l.from (sums_of l)) (letters ++ l ∷ []) log }
+    ensures letter { (barrier : BarrierState) (letters : List Letter) (log : List Entry) (l : Letter) →
+        length barrier.heard ≡ barrier.layout.ranks → AreItsRounds barrier letters log →
+        AreItsRounds (with_letter barrier l) (letters ++ l ∷ []) log }
+    ensures letters { (barrier : BarrierState) (letters more : List Letter) (log : List Entry) →
+        length barrier.heard ≡ barrier.layout.ranks → AreItsRounds barrier letters log →
+        AreItsRounds (with_letters barrier more) (letters ++ more) log }
+    ensures agrees { (barrier : BarrierState) (kept : List Letter) (me : Local) → InRange barrier →
+        BarrierAgrees barrier kept me → BarrierAgrees (with_letters barrier kept) [] me }
 {}
 
 /// Where a barrier agrees with a modest log and its rank keeps no control letter, it knows the rounds of the log: how many
-/// the rank knows, where the present barrier begins, how many it left, the sums of the last round, and, at rank 0, the sums
-/// in the Counts of the rounds that aren't over. Where a barrier begins after the last round that it knows, that round
-/// ended the barrier before.
+/// the rank knows, where the present barrier begins, how many it left, and the sums of the last round. It knows which Counts
+/// the log took, and once it has those of all ranks, their sums over the round that comes after those that are over. Where
+/// a barrier begins after the last round that it knows, that round ended the barrier before.
 pub fn a_barrier_knows_the_rounds_of_its_log()
     ensures known { (barrier : BarrierState) (me : Local) → IsModest me → BarrierAgrees barrier [] me →
         barrier.known ≡ rounds_known me.here me.log }
@@ -340,11 +341,38 @@ pub fn a_barrier_knows_the_rounds_of_its_log()
         barrier.left ≡ barriers_left me }
     ensures last { (barrier : BarrierState) (me : Local) → IsModest me → BarrierAgrees barrier [] me →
         0 < barrier.known → barrier.last ≡ sums_told me.here me.log (pred barrier.known) }
-    ensures gathered { (barrier : BarrierState) (me : Local) → IsModest me → BarrierAgrees barrier [] me →
-        me.here ≡ 0 → (from k : ℕ) → slice_get (barrier.gathered from) k
-        ≡ option_map sums_of (count_taken from (totals 0 me.log + k) me.log) }
+    ensures taken { (barrier : BarrierState) (me : Local) → IsModest me → BarrierAgrees barrier [] me →
+        (from q : ℕ) → from < me.layout.ranks → q < (heard_of barrier from).rounds →
+        is_some (count_taken from q me.log) ≡ true }
+    ensures not_taken { (barrier : BarrierState) (me : Local) → IsModest me → BarrierAgrees barrier [] me →
+        (from q : ℕ) → from < me.layout.ranks → (heard_of barrier from).rounds ≤ q →
+        count_taken from q me.log ≡ None }
+    ensures sums { (barrier : BarrierState) (me : Local) → IsModest me → BarrierAgrees barrier [] me →
+        InRange barrier → HasEveryCount barrier →
+        ((round_sums barrier).sent ≡ sent_taken me barrier.over) × ((round_sums barrier).run ≡ run_taken me barrier.over) }
     ensures has_left { (barrier : BarrierState) (me : Local) (round : ℕ) → IsModest me → BarrierAgrees barrier [] me →
         barrier.known ≡ suc round → barrier.first ≡ barrier.known → HasLeft me (pred barrier.left) round }
+{}
+
+/// A barrier has room for what it is handed, where it agrees with a modest log: the rank took no Total of a round that it
+/// didn't count, and at most two Counts of a rank more than there are rounds that are over. So it is handed one Total at
+/// most, after which all that holds of each barrier holds of it again. If that ends a barrier, the rank has left it at the
+/// round that it was told of last, and may be outside.
+pub fn a_barrier_has_room_for_what_it_is_handed()
+    ensures room { (barrier : BarrierState) (kept : List Letter) (me : Local) → InRange barrier → IsModest me →
+        BarrierAgrees barrier kept me → HasRoom barrier kept }
+    ensures in_range { (barrier : BarrierState) (kept : List Letter) → InRange barrier → HasRoom barrier kept →
+        InRange (with_letters barrier kept) }
+    ensures left_once { (barrier : BarrierState) (kept : List Letter) → InRange barrier → HasRoom barrier kept →
+        let now : BarrierState = with_letters barrier kept in
+        (now.left ≡ barrier.left)
+        ⊎ ((now.left ≡ barrier.left + 1) × (now.first ≡ now.known) × (now.known ≡ barrier.known + 1)) }
+    ensures outside { (barrier : BarrierState) (kept : List Letter) (me : Local) → InRange barrier → IsModest me →
+        BarrierAgrees barrier kept me → barrier.left < (with_letters barrier kept).left →
+        BarrierAgrees (record (with_letters barrier kept) { inside = false }) [] me }
+    ensures has_left { (barrier : BarrierState) (kept : List Letter) (me : Local) → InRange barrier → IsModest me →
+        BarrierAgrees barrier kept me → barrier.left < (with_letters barrier kept).left →
+        HasLeft me barrier.left ((with_letters barrier kept).known - 1) }
 {}
 
 /// The theorem of a barrier. Once any rank has left it, all is settled at its cut, where each log is served: the letters
@@ -354,7 +382,7 @@ pub fn all_is_settled_where_a_barrier_ended<C>()
     ensures { (apply : Applies C) (start : ℕ → C) (world : Logs) (rank barrier round : ℕ) → IsSound world →
         HasLeft (local world rank) barrier round →
         ((one : ℕ) → one < world.layout.ranks →
-        IsServed (handler_at apply world.layout.ranks start one) (log_of world one)) →
+        IsServed apply one world.layout.ranks (start one) (log_of world one)) →
         IsSettledCut apply start world (pred round) }
 {}
 

@@ -5,7 +5,9 @@ mod barrier;
 mod heard;
 pub mod laws;
 mod poll;
+pub mod poll_laws;
 mod polled;
+pub mod put_laws;
 mod rounds;
 #[cfg(test)]
 mod tests;

@@ -6,10 +6,11 @@ ghost use Rattle.comm_rank.specs.Fault.{IfStopped, UnlessStopped};
 ghost use Rattle.comm_rank.specs.Rank.{Rank, Worked as RankWorked, local_of};
 ghost use Rattle.comm_rank.specs.Turns.{HasEnded, HasHalted, KeepsPost};
 ghost use Rattle.term_barrier.specs.declared.polled.Waiting.TheVariants.{Worked, Link};
-ghost use Rattle.term_barrier.specs.Polls.{AfterTurn, IsAnswer, IsOtherReason, IsSameBarrier, PollEnded, PollFailed, Stands, either};
+ghost use Rattle.term_barrier.specs.Polls.{AfterTurn, BarrierEnded, BarrierFailed, IsAnswer, IsOtherReason, IsSameBarrier, PollEnded, PollFailed, Stands, either};
 
 use crate::{Barrier, Polled, Waiting};
 use comm_rank::{Comm, CommFault, Handler, Turn};
+use std::sync::Wait;
 use world_core::Post;
 
 impl Barrier {
@@ -43,6 +44,33 @@ impl Barrier {
             comm.halt(post);
         }
         polled
+    }
+
+    /// Enters the next barrier, and polls until the rank has left it. It returns the number of the barrier and the round
+    /// that ended it, and fails as `poll` does. It waits for ever where another rank doesn't enter the barrier, or where no
+    /// round is left.
+    pub fn barrier<R: Wait, H: Handler, P: Post>(
+        &mut self,
+        rt: &R,
+        comm: &mut Comm<H>,
+        post: &mut P,
+    ) -> Result<(u64, u64), CommFault>
+        requires going { comm.old.stopped ≡ false }
+        requires stands { Stands H.apply H.start self.old comm.old (P.state post.old) }
+        requires outside { self.old.inside ≡ false }
+        ensures ended { IfOk result (λ what. BarrierEnded H.apply H.start self.old self.new comm.old comm.new (P.state post.old) (P.state post.new) what.0 what.1) }
+        ensures failed { IfErr result (BarrierFailed H.apply H.start (record self.old { inside = true }) comm.old comm.new (P.state post.old) (P.state post.new)) }
+        ensures rank { RankWorked (record comm.old { stopped = is_err result }) comm.new }
+        ensures post { KeepsPost comm.old (P.state post.old) (P.state post.new) }
+        ensures barrier { IsSameBarrier self.old self.new }
+    {
+        self.enter(comm);
+        for _ in rt.forever() {
+            if let Polled::Left { barrier, round } = self.poll(comm, post)? {
+                return Ok((barrier, round));
+            }
+        }
+        unreachable!()
     }
 
     /// What a poll does after its turn: it takes in the control letters, leaves where the barrier ended, and otherwise

@@ -7,7 +7,7 @@ ghost use Rattle.world_core.specs.Rules.{first_broken};
 ghost use Rattle.world_core.specs.Rules.Deed.{Puts};
 ghost use Rattle.comm_rank.specs.declared.fault.CommFault.TheVariants.{NoMemory};
 ghost use Rattle.comm_rank.specs.Rank.{IsIdle, held_letters};
-ghost use Rattle.term_barrier.specs.Barriers.{HasHeardAll, HasPutTotals, IsMissing, IsTotalDue, round_sums, with_total_put};
+ghost use Rattle.term_barrier.specs.Barriers.{HasHeardAll, HasPutTotals, IsMissing, IsNextTotal, IsTotalDue, heard_of, round_sums, sums_heard_at, with_total_put};
 ghost use Rattle.term_barrier.specs.Polls.{FoundFull, HasPutControls, PutsLetter, Stands};
 
 use crate::Barrier;
@@ -84,7 +84,20 @@ impl Barrier {
         None
     }
 
-    /// The sums of the round that comes after those that are over.
+    /// The sums that a rank counted in the round after those that are over: the last that was heard of it, or those before.
+    fn heard_sums(&self, rank: u32) -> RoundSums
+        requires { rank < self.now.layout.ranks }
+        ensures { result ≡ sums_heard_at self.now.over (heard_of self.now rank) }
+    {
+        let one = &self.heard[rank as usize];
+        if one.rounds == self.over + 1 {
+            one.last
+        } else {
+            one.before
+        }
+    }
+
+    /// The sums of that round over all ranks.
     fn round_sums(&self) -> RoundSums
         requires few { (round_sums self.now).sent ≤ most_arrived }
         requires few_run { (round_sums self.now).run ≤ most_arrived }
@@ -93,16 +106,25 @@ impl Barrier {
         let mut sent = 0;
         let mut run = 0;
         for rank in 0..self.layout.ranks() {
-            let one = &self.heard[rank as usize];
-            let sums = if one.rounds == self.over + 1 {
-                one.last
-            } else {
-                one.before
-            };
+            let sums = self.heard_sums(rank);
             sent += sums.sent;
             run += sums.run;
         }
         RoundSums { sent, run }
+    }
+
+    /// Notes that the Total of that round was put to a rank. After that to itself, the round is over.
+    fn has_put_total(&mut self, to: u32)
+        requires next { IsNextTotal self.old to }
+        requires counted { self.old.over < self.old.counted }
+        ensures noted { self.new ≡ with_total_put self.old to }
+    {
+        if to == 0 {
+            self.over += 1;
+            self.next = 1;
+        } else {
+            self.next = to + 1;
+        }
     }
 
     /// Puts the Total of that round, with these sums, to the rank that is next. It returns whether the link wasn't full.
@@ -131,14 +153,11 @@ impl Barrier {
             s: sums.sent,
             r: sums.run,
         };
-        let put = put_letter(post, self.alloc, self.here, to, total)?;
-        if put && to == 0 {
-            self.over += 1;
-            self.next = 1;
-        } else if put {
-            self.next = to + 1;
+        if !put_letter(post, self.alloc, self.here, to, total)? {
+            return Ok(false);
         }
-        Ok(put)
+        self.has_put_total(to);
+        Ok(true)
     }
 
     /// At rank 0, where it has the Counts of all ranks of the present round, puts the Total of that round to the other

@@ -1,5 +1,11 @@
 ghost use Rattle.std.specs.Prelude.{[], refl};
 
+mod faults;
+mod ranks;
+mod relay;
+mod rounds;
+mod waits;
+
 use super::laws::*;
 use comm_rank::{Handler, Outgoing};
 use msg_codec::LetterRef;
@@ -51,6 +57,7 @@ fn the_laws_can_be_cited() {
     a_barrier_stays_in_agreement::<u64>();
     a_barrier_is_handed_control_letters();
     a_barrier_knows_the_rounds_of_its_log();
+    a_barrier_has_room_for_what_it_is_handed();
     all_is_settled_where_a_barrier_ended::<u64>();
     a_rank_alone_leaves_at_its_second_round();
 }

@@ -1,9 +1,10 @@
 -- A new barrier agrees with the empty log, and stays in agreement as the log gains takes and puts of data letters, and as
 -- control letters are handed over.
-use Rattle.std.proofs.Common.{◌≡◌, ℕ, ◌+◌, ◌≤◌, false, le-ltb, List, [], ◌∷◌, ◌++◌, length, filter, refl, sym, ap, ◌∙◌, subst, append_assoc, append-nil, length-append, arith}
+use Rattle.std.proofs.Common.{◌≡◌, ℕ, ◌+◌, ◌≤◌, Bool, true, false, cond, ◌&&◌, nat_lt, le-ltb, ltb-true, List, [], ◌∷◌, ◌++◌, length, filter, refl, sym, ap, ◌∙◌, subst, append_assoc, append-nil, length-append, arith}
 use Rattle.std.specs.Bool.{IsTrue}
 use Rattle.std.specs.List.{AllByRecursion}
 use Rattle.std.proofs.lemmas.Grind.{flat_map-append}
+use Rattle.std.proofs.lemmas.List.{get_or-replicate}
 use Rattle.std.proofs.lemmas.List.Elements.{filter-append, filter_map-append}
 use Rattle.list_facts.proofs.Elements.{all_weaker}
 use Rattle.list_facts.proofs.Filters.{filter_none}
@@ -26,7 +27,7 @@ use Rattle.comm_rank.specs.declared.turn.Turn.{Turn}
 use Rattle.comm_rank.specs.Fold.{Applies}
 use Rattle.comm_rank.specs.Rank.{IsSameRank, Rank, local_of}
 use Rattle.comm_rank.specs.Turns.{Turned}
-use Rattle.term_barrier.specs.Barriers.{AreItsRounds, BarrierAgrees, BarrierState, control_letters, fresh_barrier}
+use Rattle.term_barrier.specs.Barriers.{AreItsRounds, BarrierAgrees, BarrierState, IsHeard, control_letters, fresh_barrier, none_heard}
 use Rattle.term_barrier.specs.Left.{gained}
 use Rattle.term_barrier.proofs.CountedPlace.Left.{counted_early}
 use Rattle.term_barrier.proofs.CountedPlace.Polled.{no_counts, takes_put_none, turn_counts}
@@ -35,6 +36,17 @@ use Rattle.term_barrier.proofs.Left.SameSums.{first_round-same}
 use Rattle.term_barrier.proofs.Left.Since.{first_grows}
 
 -- ---- the empty log
+
+one_of_none : (a b : Bool) → (a ≡ true → b ≡ true → ⊥) → 0 + cond (a && b) 1 0 ≡ 0
+one_of_none true true none = absurd (none refl refl)
+one_of_none true false none = refl
+one_of_none false b none = refl
+
+none_put_yet : (to : ℕ) → 0 + cond (nat_lt 0 to && nat_lt to 1) 1 0 ≡ 0
+none_put_yet to = one_of_none (nat_lt 0 to) (nat_lt to 1) (λ above below. omega (arith, ltb-true 0 to above, ltb-true to 1 below))
+
+hears_none : IsHeard none_heard []
+hears_none = record { rounds_are = refl; last_is = λ some. absurd (omega (arith, some)); before_is = λ some. absurd (omega (arith, some)) }
 
 pub agrees_fresh : (layout : Shape) (scheme : Scheme) (here rounds : ℕ) → BarrierAgrees (fresh_barrier layout here rounds) [] (local_rank layout scheme here [])
 unfolding first_round ended_below
@@ -45,12 +57,13 @@ agrees_fresh layout scheme here rounds = record {
   in_order = refl;
   its_rounds = record {
     counts_are = refl;
-    totals_are = λ to. refl;
+    totals_are = λ to within. none_put_yet to;
     known_are = refl;
     first_is = refl;
     left_are = refl;
     last_is = λ some. absurd (omega (arith, some));
-    gathered_are = λ from. refl;
+    heard_are = λ from within.
+        subst (λ one. IsHeard one []) (sym (get_or-replicate layout.ranks from none_heard none_heard within)) hears_none;
   };
   outside = λ inside. le-ltb _ _ (omega arith);
 }
@@ -62,7 +75,7 @@ controls-append log more =
     ap (filter is_control) (flat_map-append letters_taken_by log more)
     ∙ filter-append is_control (letters_taken log) (letters_taken more)
 
-totals-append : (to : ℕ) (log more : List Entry) → totals to (log ++ more) ≡ totals to log + totals to more
+pub totals-append : (to : ℕ) (log more : List Entry) → totals to (log ++ more) ≡ totals to log + totals to more
 totals-append to log more =
     ap (λ batches. length (filter is_total (letters_of batches))) (filter_map-append (put_to to) log more)
     ∙ ap (λ letters. length (filter is_total letters)) (flat_map-append (λ batch. batch) (batches_put to log) (batches_put to more))
@@ -97,12 +110,12 @@ module _ (barrier : BarrierState) (kept : List Letter) (me : Local) (more : List
         ∙ ap (λ letters. letters ++ control_letters more) agrees.in_order ∙ sym (controls-append me.log more);
     its_rounds = record {
       counts_are = agrees.its_rounds.counts_are ∙ sym same_counts;
-      totals_are = λ to. agrees.its_rounds.totals_are to ∙ sym (same_totals to);
+      totals_are = λ to within. agrees.its_rounds.totals_are to within ∙ sym (same_totals to);
       known_are = agrees.its_rounds.known_are;
       first_is = agrees.its_rounds.first_is;
       left_are = agrees.its_rounds.left_are;
       last_is = agrees.its_rounds.last_is;
-      gathered_are = λ from. rw (same_totals 0) (agrees.its_rounds.gathered_are from);
+      heard_are = agrees.its_rounds.heard_are;
     };
     outside = λ inside.
         let early = counted_early me (agrees.outside inside) in

@@ -1,10 +1,10 @@
 -- In a modest log, the control letters say what the log does of the Counts and Totals that it took: each by its place.
-use Rattle.std.proofs.Common.{◌≡◌, ℕ, zero, suc, ◌+◌, Bool, true, false, ◌&&◌, cond, nat_eq, eqb-true, eq-eqb, ne_eqb, is_some, Some, None, List, [], ◌∷◌, length, map, filter, get_or, slice_get, refl, sym, ap, ◌∙◌, subst, le_trans, arith, if◌then◌else◌}
-use Rattle.std.specs.List.{AllByRecursion, cons_option, find, list_any}
+use Rattle.std.proofs.Common.{◌≡◌, ℕ, zero, suc, ◌+◌, Bool, true, false, ◌&&◌, cond, nat_eq, eqb-true, eq-eqb, ne_eqb, is_some, List, [], ◌∷◌, length, map, filter, get_or, slice_get, refl, sym, ap, ◌∙◌, subst, le_trans, arith}
+use Rattle.std.specs.List.{AllByRecursion, find, list_any}
 use Rattle.std.proofs.lemmas.Bool.{false≢true, not-false, or_right}
 use Rattle.std.proofs.lemmas.Option.{slice_get-get_or, slice_get_past}
 use Rattle.list_facts.proofs.Below.{row_is}
-use Rattle.list_facts.proofs.Elements.{all_append, all_weaker}
+use Rattle.list_facts.proofs.Elements.{all_weaker}
 use Rattle.list_facts.proofs.Filters.{filter_fewer, filter_within}
 use Rattle.list_facts.proofs.Tests.{and_first, and_false_second, and_second, or_false_first, or_false_second}
 use Rattle.msg_codec.specs.Control.{is_control, is_count, is_total, round_of}
@@ -20,6 +20,7 @@ use Rattle.world_core.specs.Rounds.{rounds_known, sums_in, sums_told}
 use Rattle.world_core.proofs.Log.ByLink.{only_taken}
 use Rattle.world_core.proofs.Modest.Lawful.{lawful_batch, sender}
 use Rattle.term_barrier.specs.Barriers.{control_letters, no_sums, sums_heard, sums_of}
+use Rattle.term_barrier.proofs.Links.{AllTook, each_link}
 
 -- ---- numbered letters
 
@@ -42,32 +43,16 @@ find_numbered p n k (x ∷ xs) numbered = by_test (p x) refl k numbered (λ m j 
     by_test false fails j h later = rw fails (later n j h)
 
 -- the sums in the letter at a place
-sums_at_place : (letters : List Letter) (q : ℕ) → sums_in (slice_get letters q) ≡ get_or (map sums_of letters) q no_sums
+pub sums_at_place : (letters : List Letter) (q : ℕ) → sums_in (slice_get letters q) ≡ get_or (map sums_of letters) q no_sums
 sums_at_place [] zero = refl
 sums_at_place [] (suc q) = refl
 sums_at_place (l ∷ letters) zero = refl
 sums_at_place (l ∷ letters) (suc q) = sums_at_place letters q
 
-no_letter : Letter
+pub no_letter : Letter
 no_letter = record { to = 0; from = 0; tag = 0; body = [] }
 
 -- ---- letters of links
-
--- what holds of each batch that a log took, by the rank that it came from
-abbrev AllTook : (ℕ → Letter → Type 0) → Entry → Type 0
-AllTook Q (Put to letters) = Unit {0}
-AllTook Q (Took from letters) = AllByRecursion (Q from) letters
-
-each_link : (Q : ℕ → Letter → Type 0) (rank : ℕ) (log : List Entry) → AllByRecursion (AllTook Q) log → AllByRecursion (Q rank) (letters_of (batches_taken rank log))
-each_link Q rank [] all = tt
-each_link Q rank (Put to letters ∷ log) all = each_link Q rank log all.1
-each_link Q rank (Took from letters ∷ log) all = by_link (nat_eq from rank) refl all.0 (each_link Q rank log all.1)
-  where
-    by_link : (b : Bool) → nat_eq from rank ≡ b → AllByRecursion (Q from) letters → AllByRecursion (Q rank) (letters_of (batches_taken rank log)) →
-        AllByRecursion (Q rank) (letters_of (cons_option (if b then Some letters else None) (batches_taken rank log)))
-    by_link true same first later =
-        all_append (Q rank) letters (letters_of (batches_taken rank log)) (subst (λ r. AllByRecursion (Q r) letters) (eqb-true from rank same) first) later
-    by_link false other first later = later
 
 filter_alike : (p q : Letter → Bool) (xs : List Letter) → AllByRecursion (λ l. p l ≡ q l) xs → filter p xs ≡ filter q xs
 filter_alike p q [] alike = refl
@@ -160,16 +145,28 @@ module _ (me : Local) (modest : IsModest me) where
       (λ l is. total_control l (total_of me.here l is))
       (modest.control.totals_in_order 0) q
 
-  -- at rank 0, and so is the Count of a rank
-  pub count_at : me.here ≡ 0 → (from q : ℕ) → count_taken from q me.log ≡ slice_get (filter (is_count_of from) (control_letters me.log)) q
-  unfolding count_taken
-  count_at first from q =
-      found_at me.log (is_count_of from) is_count from
-      (so_each _ (λ rank l h is. let count = count_of from l is in sym (eqb-true l.from rank (h.count count.0).0) ∙ count.1))
-      (each_link (λ rank l. is_count_of rank l ≡ is_count l) from me.log
-      (so_each _ (λ rank l h. same_test (is_count_of rank l) (is_count l) (λ is. (count_of rank l is).0) (λ is. let parts = h.count is in rw (is, parts.0, parts.1) refl))))
-      (λ l is. count_control l (count_of from l is).0)
-      (modest.control.counts_in_order from) q
+  -- and so is the Count of a rank
+  module _ (from : ℕ) where
+    alone : AllByRecursion (AllTook (λ rank l. is_count_of from l ≡ true → rank ≡ from)) me.log
+    alone = so_each _ (λ rank l h is. let count = count_of from l is in sym (eqb-true l.from rank (h.count count.0).0) ∙ count.1)
+
+    alike : AllByRecursion (λ l. is_count_of from l ≡ is_count l) (letters_of (batches_taken from me.log))
+    alike =
+        each_link (λ rank l. is_count_of rank l ≡ is_count l) from me.log
+        (so_each _ (λ rank l h. same_test (is_count_of rank l) (is_count l) (λ is. (count_of rank l is).0) (λ is. let parts = h.count is in rw (is, parts.0, parts.1) refl)))
+
+    control : (l : Letter) → is_count_of from l ≡ true → is_control l ≡ true
+    control l is = count_control l (count_of from l is).0
+
+    pub count_at : (q : ℕ) → count_taken from q me.log ≡ slice_get (filter (is_count_of from) (control_letters me.log)) q
+    unfolding count_taken
+    count_at q = found_at me.log (is_count_of from) is_count from alone alike control (modest.control.counts_in_order from) q
+
+    -- the Counts of a rank are those that came over its link
+    pub counts_over_link : filter (is_count_of from) (control_letters me.log) ≡ filter is_count (letters_of (batches_taken from me.log))
+    counts_over_link =
+        over_link me.log (is_count_of from) is_count from alone alike control (modest.control.counts_in_order from)
+        ∙ filter_alike (is_count_of from) is_count (letters_of (batches_taken from me.log)) alike
 
   -- ---- rounds
 

@@ -1,20 +1,26 @@
 -- A barrier that agrees with a modest log, and was handed all control letters, knows the rounds of the log.
-use Rattle.std.proofs.Common.{◌≡◌, ℕ, zero, suc, pred, ◌+◌, ◌<◌, ◌≤◌, Bool, true, false, cond, option_map, List, [], ◌∷◌, ◌++◌, drop, get_or, length, length-append, map, slice_get, refl, sym, ap, ◌∙◌, append-nil, arith}
+use Rattle.std.proofs.Common.{◌≡◌, ℕ, suc, pred, ◌+◌, ◌-◌, ◌<◌, ◌≤◌, Bool, true, false, cond, nat_eq, eqb-true, eq-eqb, is_some, None, List, [], ◌++◌, get_or, length, length-append, map, refl, sym, ap, ◌∙◌, subst, append-nil, inl, inr, arith}
 use Rattle.std.specs.List.{filter}
 use Rattle.std.proofs.Math.ListN.{get_or-append}
+use Rattle.std.proofs.lemmas.Bool.{cases_lt, false≢true}
 use Rattle.std.proofs.lemmas.List.{length-map, map-append}
 use Rattle.std.proofs.lemmas.List.Elements.{filter-append}
-use Rattle.std.proofs.lemmas.Option.{slice_get-map}
+use Rattle.std.proofs.lemmas.Option.{slice_get-get_or, slice_get_past}
+use Rattle.list_facts.specs.Sums.{sum_upto}
+use Rattle.list_facts.proofs.Sums.{sum_upto-same}
 use Rattle.msg_codec.specs.declared.letter.Letter.{Letter}
 use Rattle.world_core.specs.declared.entry.Entry.{Entry}
-use Rattle.world_core.specs.Counts.{count_taken, is_count_of, is_total_to, totals}
+use Rattle.world_core.specs.ControlRules.{run_taken, sent_taken}
+use Rattle.world_core.specs.Counts.{count_taken, is_count_of, is_total_to}
 use Rattle.world_core.specs.Local.{Local}
 use Rattle.world_core.specs.Modest.{IsModest}
-use Rattle.world_core.specs.Rounds.{Sums, barrier_start, ended_below, ends, first_round, rounds_known, sums_told}
+use Rattle.world_core.specs.Rounds.{Sums, barrier_start, ended_below, ends, first_round, rounds_known, sums_in, sums_told}
 use Rattle.world_core.proofs.Rounds.BarrierStart.{first_within}
-use Rattle.term_barrier.specs.Barriers.{BarrierAgrees, BarrierState, control_letters, counts_heard, no_sums, sums_heard, sums_of, totals_heard}
+use Rattle.term_barrier.specs.declared.heard.Heard.{Heard}
+use Rattle.term_barrier.specs.Barriers.{BarrierAgrees, BarrierState, HasEveryCount, InRange, IsHeard, control_letters, counts_heard, heard_of, no_sums, round_sums, sums_heard, sums_heard_at, sums_of, totals_heard}
 use Rattle.term_barrier.specs.Left.{HasLeft, barriers_left, gained}
-use Rattle.term_barrier.proofs.Barriers.Knows.{count_at, known_at, told_at}
+use Rattle.term_barrier.proofs.Barriers.Knows.{count_at, known_at, no_letter, sums_at_place, told_at}
+use Rattle.term_barrier.proofs.Barriers.Room.{few_heard}
 use Rattle.term_barrier.proofs.Left.Grown.{sums_stay}
 use Rattle.term_barrier.proofs.Left.SameSums.{ended_below-same, first_round-same}
 use Rattle.term_barrier.proofs.Left.Since.{ends_later, one_more}
@@ -28,10 +34,23 @@ ended_there sums q begins = by_end (ends sums q) refl begins
     by_end true e h = e
     by_end false e h = absurd (omega (arith, h, first_within sums q))
 
-get-drop : {X : Type 0} (n k : ℕ) (xs : List X) → slice_get (drop n xs) k ≡ slice_get xs (n + k)
-get-drop zero k xs = let e : 0 + k ≡ k = omega arith in ap (slice_get xs) (sym e)
-get-drop (suc n) k [] = refl
-get-drop (suc n) k (x ∷ xs) = let e : suc n + k ≡ suc (n + k) = omega arith in get-drop n k xs ∙ ap (slice_get (x ∷ xs)) (sym e)
+-- what is kept of the Count of a round, where that is the last which was heard or the one before
+sums_kept : (one : Heard) (sums : List Sums) (q : ℕ) → IsHeard one sums → q < one.rounds → one.rounds ≤ q + 2 →
+    sums_heard_at q one ≡ get_or sums q no_sums
+sums_kept one sums q heard after few = by (nat_eq one.rounds (q + 1)) refl
+  where
+    by : (b : Bool) → nat_eq one.rounds (q + 1) ≡ b → cond b one.last one.before ≡ get_or sums q no_sums
+    by true same =
+        let long : one.rounds ≡ q + 1 = eqb-true _ _ same in
+        let place : length sums - 1 ≡ q = omega (arith, heard.rounds_are, long) in
+        heard.last_is (omega (arith, heard.rounds_are, long)) ∙ ap (λ k. get_or sums k no_sums) place
+    by false other =
+        let long : one.rounds ≡ q + 2 = elim (cases_lt (q + 1) one.rounds) [
+          | inl less ↦ omega (arith, few, less)
+          | inr within ↦ absurd (false≢true (sym other ∙ eq-eqb one.rounds (q + 1) (omega (arith, after, within))))
+        ] in
+        let place : length sums - 2 ≡ q = omega (arith, heard.rounds_are, long) in
+        heard.before_is (omega (arith, heard.rounds_are, long)) ∙ ap (λ k. get_or sums k no_sums) place
 
 start_at : (me : Local) (q : ℕ) → rounds_known me.here me.log ≡ q → barrier_start me.here me.log ≡ first_round (sums_told me.here me.log) q
 unfolding barrier_start
@@ -66,15 +85,48 @@ module _ (barrier : BarrierState) (me : Local) (modest : IsModest me) (agrees : 
   pub last_is : 0 < barrier.known → barrier.last ≡ sums_told me.here me.log (pred barrier.known)
   last_is some = agrees.its_rounds.last_is some ∙ told (pred barrier.known)
 
-  pub gathered_is : me.here ≡ 0 → (from k : ℕ) →
-      slice_get (barrier.gathered from) k ≡ option_map sums_of (count_taken from (totals 0 me.log + k) me.log)
-  gathered_is first from k =
-      let over = totals 0 me.log in
-      let letters = filter (is_count_of from) (control_letters me.log) in
-      ap (λ xs. slice_get xs k) (agrees.its_rounds.gathered_are from ∙ ap (λ ls. drop over (counts_heard from ls)) all_handed)
-      ∙ get-drop over k (map sums_of letters)
-      ∙ slice_get-map sums_of letters (over + k)
-      ∙ ap (option_map sums_of) (sym (count_at me modest first from (over + k)))
+  -- ---- the Counts that the log took
+
+  pub heard_is : (from : ℕ) → from < me.layout.ranks → IsHeard (heard_of barrier from) (counts_heard from (control_letters me.log))
+  heard_is from within =
+      subst (λ ls. IsHeard (heard_of barrier from) (counts_heard from ls)) all_handed
+      (agrees.its_rounds.heard_are from (omega (arith, within, ap (λ layout. layout.ranks) agrees.layout)))
+
+  module _ (from : ℕ) (within : from < me.layout.ranks) where
+    abbrev letters : List Letter
+    letters = filter (is_count_of from) (control_letters me.log)
+
+    rounds_heard : (heard_of barrier from).rounds ≡ length letters
+    rounds_heard = (heard_is from within).rounds_are ∙ length-map letters sums_of
+
+    pub not_taken : (q : ℕ) → (heard_of barrier from).rounds ≤ q → count_taken from q me.log ≡ None
+    not_taken q past = count_at me modest from q ∙ slice_get_past letters q (omega (arith, past, rounds_heard))
+
+    pub taken : (q : ℕ) → q < (heard_of barrier from).rounds → is_some (count_taken from q me.log) ≡ true
+    taken q before =
+        ap is_some (count_at me modest from q ∙ slice_get-get_or letters q no_letter (omega (arith, before, rounds_heard)))
+
+    sums_of_count : InRange barrier → HasEveryCount barrier →
+        sums_heard_at barrier.over (heard_of barrier from) ≡ sums_in (count_taken from barrier.over me.log)
+    sums_of_count range every =
+        let rank : from < barrier.layout.ranks = omega (arith, within, ap (λ layout. layout.ranks) agrees.layout) in
+        let few : (heard_of barrier from).rounds ≤ barrier.over + 2 = omega (arith, few_heard barrier [] me range modest agrees from rank) in
+        sums_kept (heard_of barrier from) (counts_heard from (control_letters me.log)) barrier.over
+        (heard_is from within) (every from rank) few
+        ∙ sym (ap sums_in (count_at me modest from barrier.over) ∙ sums_at_place letters barrier.over)
+
+  -- the sums of the round that comes after those that are over, whose Counts it has
+  pub sums_are : InRange barrier → HasEveryCount barrier →
+      ((round_sums barrier).sent ≡ sent_taken me barrier.over) × ((round_sums barrier).run ≡ run_taken me barrier.over)
+  sums_are range every = (
+    ap (sum_upto (λ from. (sums_heard_at barrier.over (heard_of barrier from)).sent)) ranks
+    ∙ sum_upto-same _ _ me.layout.ranks (λ from within. ap (λ sums. sums.sent) (sums_of_count from within range every)),
+    ap (sum_upto (λ from. (sums_heard_at barrier.over (heard_of barrier from)).run)) ranks
+    ∙ sum_upto-same _ _ me.layout.ranks (λ from within. ap (λ sums. sums.run) (sums_of_count from within range every)),
+  )
+    where
+      ranks : barrier.layout.ranks ≡ me.layout.ranks
+      ranks = ap (λ layout. layout.ranks) agrees.layout
 
   -- where the next round that it is told of begins a barrier, the rank just left one
   pub just_left : (round : ℕ) → barrier.known ≡ suc round → barrier.first ≡ barrier.known → HasLeft me (pred barrier.left) round

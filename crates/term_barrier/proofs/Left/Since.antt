@@ -1,15 +1,14 @@
 -- The rounds of a barrier that a rank leaves: it counted in them since it left the barrier before.
-use Rattle.std.proofs.Common.{◌≡◌, ℕ, zero, suc, ◌≤◌, ◌<◌, ◌&&◌, Bool, true, false, cond, nat_eq, nat_lt, eqb-true, ltb-true, is_some, Option, Some, None, slice_get, take, List, [], ◌∷◌, ◌++◌, refl, ◌∙◌, le_trans, inl, inr, arith, if◌then◌else◌}
-use Rattle.std.specs.List.{AllByRecursion, cons_option, list_any}
+use Rattle.std.proofs.Common.{◌≡◌, ℕ, zero, suc, ◌≤◌, ◌<◌, ◌&&◌, Bool, true, false, cond, nat_eq, nat_lt, eqb-true, ltb-true, is_some, Option, Some, None, take, List, [], ◌∷◌, ◌++◌, refl, ◌∙◌, le_trans, inl, inr, arith}
+use Rattle.std.specs.List.{AllByRecursion, list_any}
 use Rattle.std.proofs.lemmas.Bool.{cases_lt, false≢true, not-false}
 use Rattle.list_facts.specs.Prefix.{IsPrefix}
-use Rattle.list_facts.proofs.Elements.{all_append, find_found}
+use Rattle.list_facts.proofs.Elements.{find_found}
 use Rattle.list_facts.proofs.Prefix.{prefix_take}
 use Rattle.list_facts.proofs.Tests.{and_first, and_false_second, and_second, or_false_first, or_false_second}
 use Rattle.msg_codec.specs.Control.{is_count, is_total, round_of}
 use Rattle.msg_codec.specs.declared.letter.Letter.{Letter}
 use Rattle.world_core.specs.declared.entry.Entry.{Entry}
-use Rattle.world_core.specs.declared.entry.Entry.TheVariants.{Put, Took}
 use Rattle.world_core.specs.Counts.{counts, is_total_to, total_taken, totals}
 use Rattle.world_core.specs.Local.{Local}
 use Rattle.world_core.specs.Log.{batches_taken, letters_of}
@@ -22,6 +21,7 @@ use Rattle.term_barrier.specs.Left.{HasLeft, barriers_left, gained}
 use Rattle.term_barrier.proofs.Left.Grown.{sums_stay}
 use Rattle.term_barrier.proofs.Left.Known.{took_total}
 use Rattle.term_barrier.proofs.Left.SameSums.{ended_below-same, first_round-same}
+use Rattle.term_barrier.proofs.Links.{each_batch, each_link}
 
 -- ---- later rounds are in no earlier barrier
 
@@ -69,20 +69,6 @@ left_since me more round left =
 
 -- ---- a rank takes the Total of a round after it put its own Count of that round
 
-by_link : (Q : Letter → Type 0) (b : Bool) (batch : List Letter) (batches : List (List Letter)) → AllByRecursion Q batch →
-    AllByRecursion Q (letters_of batches) → AllByRecursion Q (letters_of (cons_option (if b then Some batch else None) batches))
-by_link Q true batch batches first later = all_append Q batch (letters_of batches) first later
-by_link Q false batch batches first later = later
-
--- what holds of each batch that a log took holds of the letters of each link
-each_taken : (Q : Letter → Type 0) (rank : ℕ) (log : List Entry) →
-    ((k from : ℕ) (letters : List Letter) → slice_get log k ≡ Some (Took from letters) → AllByRecursion Q letters) →
-    AllByRecursion Q (letters_of (batches_taken rank log))
-each_taken Q rank [] each = tt
-each_taken Q rank (Put to letters ∷ log) each = each_taken Q rank log (λ k. each (suc k))
-each_taken Q rank (Took from letters ∷ log) each =
-    by_link Q (nat_eq from rank) letters (batches_taken rank log) (each 0 from letters refl) (each_taken Q rank log (λ k. each (suc k)))
-
 module _ (me : Local) (modest : IsModest me) where
   in_time : (log : List Entry) (from : ℕ) (letters : List Letter) → IsPrefix log me.log →
       list_any (too_soon (record me { log = log }) from) letters ≡ false →
@@ -104,7 +90,9 @@ module _ (me : Local) (modest : IsModest me) where
       Q l = is_total l ≡ true → round_of l < counts me.log
 
       put : AllByRecursion Q (letters_of (batches_taken 0 me.log))
-      put = each_taken Q 0 me.log (λ k from letters at. in_time (take k me.log) from letters (prefix_take k me.log) (modest.control.in_turn k from letters at))
+      put =
+          each_link (λ from. Q) 0 me.log (each_batch (λ from. Q) me.log (λ k from letters at.
+          in_time (take k me.log) from letters (prefix_take k me.log) (modest.control.in_turn k from letters at)))
 
       by_total : (o : Option Letter) → total_taken me.here q me.log ≡ o → is_some o ≡ true → q < counts me.log
       by_total None taken some = absurd (false≢true some)

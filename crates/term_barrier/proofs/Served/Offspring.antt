@@ -6,15 +6,15 @@ use Rattle.world_core.specs.Log.{letters_taken}
 use Rattle.world_core.specs.Sound.{IsSound}
 use Rattle.world_core.specs.Wave.{EndsBarrier, IsQuiet, cut}
 use Rattle.world_core.specs.World.{Logs, log_of}
+use Rattle.comm_rank.specs.Agrees.{IsServed}
 use Rattle.comm_rank.specs.Fold.{Applies}
 use Rattle.comm_rank.proofs.Rank.RanFrom.{pair_of_rank}
-use Rattle.term_barrier.specs.Account.{handler_at}
-use Rattle.term_barrier.specs.Served.{IsServed, IsSettledCut}
+use Rattle.term_barrier.specs.Served.{IsSettledCut}
 use Rattle.term_barrier.proofs.Left.QuietCuts.{ended_cut}
 use Rattle.term_barrier.proofs.Left.SameSums.{pred_within}
 
 pub settled_cut : {C : Type 0} (apply : Applies C) (start : ℕ → C) (world : Logs) (barrier round : ℕ) → IsSound world → EndsBarrier world barrier round →
-    ((rank : ℕ) → rank < world.layout.ranks → IsServed (handler_at apply world.layout.ranks start rank) (log_of world rank)) →
+    ((rank : ℕ) → rank < world.layout.ranks → IsServed apply rank world.layout.ranks (start rank) (log_of world rank)) →
     IsSettledCut apply start world (pred round)
 settled_cut apply start world barrier round sound ended served =
     let quiet : IsQuiet world (pred round) = (ended_cut world barrier round sound ended).1 in
