@@ -52,16 +52,17 @@ data_put log now placed gained all more =
     let whole : letters_put now ≡ letters_put log ++ letters_put placed = ap letters_put gained ∙ flat_map-append letters_put_by log placed in
     subst (AllByRecursion (λ l. IsTrue (is_data l))) (sym whole) (all_append (λ l. IsTrue (is_data l)) (letters_put log) (letters_put placed) all more)
 
-puts_none : (taken : List Entry) → AllByRecursion IsTake taken → letters_put taken ≡ []
-puts_none [] takes = refl
-puts_none (Took from batch ∷ taken) takes = puts_none taken takes.1
-puts_none (Put to batch ∷ taken) takes = absurd takes.0
+-- takes put no letter
+pub takes_put_none : (taken : List Entry) → AllByRecursion IsTake taken → letters_put taken ≡ []
+takes_put_none [] takes = refl
+takes_put_none (Took from batch ∷ taken) takes = takes_put_none taken takes.1
+takes_put_none (Put to batch ∷ taken) takes = absurd takes.0
 
 -- and so does one that a turn ended or cut off
 pub data_gained : (before after taken placed : List Entry) → Gained before after taken placed → PutsData before →
     PutsData after
 data_gained before after taken placed gained all =
-    let none : PutsData taken = subst (AllByRecursion (λ l. IsTrue (is_data l))) (sym (puts_none taken gained.takes)) tt in
+    let none : PutsData taken = subst (AllByRecursion (λ l. IsTrue (is_data l))) (sym (takes_put_none taken gained.takes)) tt in
     data_put (before ++ taken) after placed gained.log (data_put before (before ++ taken) taken refl all none) gained.data_alone
 
 -- ---- the rank
