@@ -11,3 +11,4 @@ pub mod Barriers
 pub mod Hearing
 pub mod Puts
 pub mod Sums
+pub mod Waited

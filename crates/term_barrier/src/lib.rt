@@ -5,6 +5,7 @@ mod barrier;
 mod heard;
 pub mod laws;
 mod poll;
+pub mod poll_laws;
 mod polled;
 pub mod put_laws;
 mod rounds;

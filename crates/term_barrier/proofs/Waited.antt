@@ -1,0 +1,3 @@
+pub mod Polled
+pub mod Kept
+pub mod Outcomes
