@@ -10,7 +10,7 @@ use Rattle.world_core.specs.Rules.{IsHonest}
 use Rattle.world_core.proofs.Counts.BeforeCount.{counts-append}
 use Rattle.list_facts.proofs.Elements.{all_append}
 use Rattle.comm_rank.specs.Fold.{Applies}
-use Rattle.comm_rank.specs.Moves.{MoveKeeps}
+use Rattle.comm_rank.specs.Turns.{PutsKeep}
 use Rattle.comm_rank.specs.Rank.{Rank, held_letters}
 use Rattle.comm_rank.proofs.Moves.OnePut.{keeps_then}
 use Rattle.term_barrier.specs.Barriers.{BarrierState, HasEveryCount, HasTotalsDue, IsNextTotal, IsTotalDue, destination, round_sums, with_total_put}
@@ -35,7 +35,7 @@ controls_then held a b c t u v first later =
         | inr none ↦ later.none_held (omega (arith, some, none, counts-append first.controls later.controls))
       ];
       barrier = later.barrier ∙ ap (with_puts c) first.barrier;
-      keeps = keeps_then a.here t u v first.keeps (subst (λ h. MoveKeeps h u v) here later.keeps);
+      keeps = keeps_then a.here t u v first.keeps (subst (λ h. PutsKeep h u v) here later.keeps);
       honest = λ honest. subst (λ h. IsHonest (local_at u h) → IsHonest (local_at v h)) here later.honest (first.honest honest);
     }
 
