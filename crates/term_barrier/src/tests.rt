@@ -1,5 +1,11 @@
 ghost use Rattle.std.specs.Prelude.{[], refl};
 
+mod faults;
+mod ranks;
+mod relay;
+mod rounds;
+mod waits;
+
 use super::laws::*;
 use comm_rank::{Handler, Outgoing};
 use msg_codec::LetterRef;
