@@ -1,5 +1,5 @@
 -- What a rank does as it puts what it holds. Only private functions cite this.
-use Rattle.std.specs.Prelude.{◌≡◌, ◌≢◌, ℕ, ◌+◌, ◌-◌, ◌^◌, ◌<◌, ◌≤◌, Bool, true, false, IsTrue, Option, List, [], ◌++◌, length, min}
+use Rattle.std.specs.Prelude.{◌≡◌, ◌≢◌, ℕ, ◌+◌, ◌-◌, ◌^◌, ◌<◌, ◌≤◌, Bool, true, false, IsTrue, Option, None, List, [], ◌++◌, length, min}
 use Rattle.std.specs.List.{AllByRecursion}
 use Rattle.msg_codec.specs.declared.letter.Letter.{Letter}
 use Rattle.ygm_route.specs.declared.scheme.Scheme.TheVariants.{Direct}
@@ -90,6 +90,7 @@ pub record HasPutEach (here ranks : ℕ) (before after : List (List Letter)) (ol
   pub count : put ≡ min (length placed) (2 ^ 64 - 1)
   pub none_or_full : (to : ℕ) → to < ranks → NoneOrFull here to after old new
   pub first_full : FirstFull ranks after old new full
+  pub none_held : full ≡ None → (to : ℕ) → to < ranks → NoneClosed after to
 
 -- Puts of a rank: its log gained puts of data letters alone. What it has sent, what ran, and all of the rank but what it
 -- holds are unchanged.
@@ -107,6 +108,7 @@ pub record HasPutAll {C : Type 0} (old new : Rank C) (before after : PostState) 
   pub count : put ≡ min (length placed) (2 ^ 64 - 1)
   pub none_or_full : (to : ℕ) → to < old.layout.ranks → NoneOrFull old.here to new.held before after
   pub first_full : FirstFull old.layout.ranks new.held before after full
+  pub none_held : full ≡ None → (to : ℕ) → to < old.layout.ranks → NoneClosed new.held to
 
 pub record PutAllFailed {C : Type 0} (old new : Rank C) (before after : PostState) (fault : CommFault) : Type 0 where
   pub placed : List Entry

@@ -143,8 +143,8 @@ FirstFull ranks held old new (Some to) = IsFirstFull ranks to held old new
 -- ---- the outcomes of a turn: for the rank before and after it, and for what the post shows
 
 -- It ended. From each link it took one batch or found none, and for each rank it put what is held, until no closed batch
--- was left or the link was found full. The rank still belongs to the post, and may take the next turn. It met no stop, and
--- who has raised the stop is unchanged.
+-- was left or the link was found full; where no link was, no closed batch is left. The rank still belongs to the post, and
+-- may take the next turn. It met no stop, and who has raised the stop is unchanged.
 pub record HasEnded {C : Type 0} (apply : Applies C) (start : C → C) (old new : Rank C) (before after : PostState)
     (turn : Turn) : Type 0 where
   pub turned : Turned apply old new (before.log old.here) (after.log old.here) turn
@@ -153,6 +153,7 @@ pub record HasEnded {C : Type 0} (apply : Applies C) (start : C → C) (old new 
   pub takes_from_each : (from : ℕ) → from < old.layout.ranks → LookedAt old.here from before after
   pub puts_to_each : (to : ℕ) → to < old.layout.ranks → NoneOrFull old.here to new.held before after
   pub full : FirstFull old.layout.ranks new.held before after turn.full
+  pub none_held : turn.full ≡ None → (to : ℕ) → to < old.layout.ranks → NoneClosed new.held to
   pub stops : SameStops before after
   pub halts : after.halts ≡ before.halts
 

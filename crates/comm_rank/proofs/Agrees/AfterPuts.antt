@@ -162,6 +162,7 @@ module _ {C : Type 0} (apply : Applies C) (start : C → C) (me : Rank C) (old :
     count = p.count;
     none_or_full = λ to within. p.none_or_full to (omega (arith, within, is));
     first_full = subst (λ n. FirstFull n held old new full) is p.first_full;
+    none_held = λ none to within. p.none_held none to (omega (arith, within, is));
   }
 
   pub put_all_failed : (held : List (List Letter)) (new : PostState) (fault : CommFault) → PutsFailed me.here me.held held old new fault → PutAllFailed me (record me { held = held }) old new fault
