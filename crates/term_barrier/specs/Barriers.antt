@@ -222,4 +222,15 @@ HasNoneToPut barrier = barrier.here ≡ 0 → (barrier.known < barrier.over) ⊎
 
 -- At rank 0, it put the Totals of the present round to all ranks, or wasn't handed all Counts of that round.
 abbrev pub HasPutTotals : BarrierState → Type 0
-HasPutTotals barrier = barrier.here ≡ 0 → (barrier.known < barrier.over) ⊎ ((rank : ℕ) × IsMissing barrier rank)
+HasPutTotals barrier = barrier.here ≡ 0 → (barrier.known < barrier.over) ⊎ (HasHeardAll barrier → ⊥)
+
+-- Rank 0 may put Totals: of the present round, whose Counts it was handed.
+pub record HasTotalsDue (barrier : BarrierState) : Type 0 where
+  pub first_rank : barrier.here ≡ 0
+  pub present : barrier.over ≡ barrier.known
+  pub counted : barrier.known < barrier.counted
+  pub every : HasEveryCount barrier
+
+-- where the Total goes that is next, of so many ranks
+abbrev pub destination : ℕ → ℕ → ℕ
+destination ranks next = if nat_lt next ranks then next else 0

@@ -99,7 +99,10 @@ impl Barrier {
                 round: self.known - 1,
             });
         }
-        let full = self.put_controls(comm, post)?;
+        self.holds();
+        let put = self.put_controls(comm, post);
+        self.holds();
+        let full = put?;
         Ok(Polled::Waiting(self.why(turn, full)))
     }
 

@@ -1,1 +1,5 @@
-pub mod RunEnds
+pub mod Complete
+pub mod Follows
+pub mod Opened
+pub mod Reported
+pub mod Stages

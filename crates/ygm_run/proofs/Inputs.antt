@@ -4,3 +4,4 @@ pub mod IsRead
 pub mod IsRest
 pub mod LowestFault
 pub mod ReadSoFar
+pub mod TallyWrong

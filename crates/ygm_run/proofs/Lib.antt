@@ -6,5 +6,7 @@ pub mod Inputs
 pub mod JobEnds
 pub mod Lines
 pub mod Notes
+pub mod Refusals
 pub mod TallyText
 pub mod Turns
+pub mod Verdict

@@ -1,104 +1,105 @@
 -- How a run ends, and why.
-use Rattle.std.specs.Prelude.{◌≡◌, ◌⊎◌, ℕ, ◌<◌, List, [], Result, Ok, Err, Some, length, map, slice_get, take, ⊤}
+use Rattle.std.specs.Prelude.{◌≡◌, ◌⊎◌, ℕ, ◌<◌, Bool, true, false, List, [], ◌∷◌, Option, Result, Err, IsOk, Some, length, map, slice_get, take, ⊤}
 use Rattle.ygm_io.specs.Content.{ExposedBytes, AppendedTo}
 use Rattle.ygm_io.specs.Rising.{Rose}
 use Rattle.ygm_run.specs.declared.status.InputFault.{InputFault}
-use Rattle.ygm_run.specs.declared.status.InputFault.TheVariants.{Read, Bad}
+use Rattle.ygm_run.specs.declared.status.InputFault.TheVariants.{Read, Bad as BadInput}
+use Rattle.ygm_run.specs.declared.status.LineWhy.{LineWhy}
 use Rattle.ygm_run.specs.declared.status.Status.{Status}
 use Rattle.ygm_run.specs.declared.status.Status.TheVariants.{Done, Usage, OpenFault, ReadFault, BadLine, WriteFault, NoMemory, CountFull}
 use Rattle.ygm_run.specs.declared.words.UsageKind.{UsageKind}
 use Rattle.ygm_run.specs.Inputs.{AllRead, IsFullAtRank, IsLowestFault}
+use Rattle.ygm_run.specs.Verdict.{Verdict, Bad, Text}
 
--- a fact where the run was complete
-abbrev pub OnDone : Status → Type 0 → Type 0
-OnDone Done P = P
-OnDone (Usage kind) P = ⊤
-OnDone (OpenFault file) P = ⊤
-OnDone (ReadFault rank) P = ⊤
-OnDone (BadLine rank line why) P = ⊤
-OnDone WriteFault P = ⊤
-OnDone NoMemory P = ⊤
-OnDone (CountFull rank at) P = ⊤
+-- ---- the order of refusals
 
--- a fact where the text couldn't be written
-abbrev pub OnWriteFault : Status → Type 0 → Type 0
-OnWriteFault Done P = ⊤
-OnWriteFault (Usage kind) P = ⊤
-OnWriteFault (OpenFault file) P = ⊤
-OnWriteFault (ReadFault rank) P = ⊤
-OnWriteFault (BadLine rank line why) P = ⊤
-OnWriteFault WriteFault P = P
-OnWriteFault NoMemory P = ⊤
-OnWriteFault (CountFull rank at) P = ⊤
+-- a place in the order of refusals: with which statuses a run ends here, and what holds if it goes on
+pub record Stage : Type 1 where
+  pub refuses : Status → Type 0
+  pub passes : Type 0
 
--- a fact where nothing was written
-abbrev pub UnlessWritten : Status → Type 0 → Type 0
-UnlessWritten Done P = ⊤
-UnlessWritten (Usage kind) P = P
-UnlessWritten (OpenFault file) P = P
-UnlessWritten (ReadFault rank) P = P
-UnlessWritten (BadLine rank line why) P = P
-UnlessWritten WriteFault P = ⊤
-UnlessWritten NoMemory P = P
-UnlessWritten (CountFull rank at) P = P
+-- The run ended at one of the stages, after it had passed all before it; or it passed all of them and is done.
+abbrev pub EndsIn : List Stage → Status → Type 0
+EndsIn [] status = status ≡ Done
+EndsIn (stage ∷ later) status = stage.refuses status ⊎ (stage.passes × EndsIn later status)
 
--- a fact where the status says that no open failed: it names no file, and isn't lack of memory
-abbrev pub UnlessUnopened : Status → Type 0 → Type 0
-UnlessUnopened Done P = P
-UnlessUnopened (Usage kind) P = P
-UnlessUnopened (OpenFault file) P = ⊤
-UnlessUnopened (ReadFault rank) P = P
-UnlessUnopened (BadLine rank line why) P = P
-UnlessUnopened WriteFault P = P
-UnlessUnopened NoMemory P = ⊤
-UnlessUnopened (CountFull rank at) P = P
+-- why a run ended so, by its stages; memory may run out at any of them
+abbrev pub Ends : List Stage → Status → Type 0
+Ends stages status = (status ≡ NoMemory) ⊎ EndsIn stages status
 
--- a prefix of a text was appended to what was held
-abbrev pub FrontAppended : List ℕ → ExposedBytes → ExposedBytes → Type 0
-FrontAppended text before now = (count : ℕ) × AppendedTo (take count text) before now
-
--- a text was appended to what was held: all of it, or a prefix of it where a write failed
-abbrev pub IsNoted : List ℕ → ExposedBytes → ExposedBytes → ℕ → ℕ → Type 0
-IsNoted text before now faults faults_now = AppendedTo text before now ⊎ (FrontAppended text before now × Rose faults faults_now)
-
--- The cause of a status, in the order in which refusals stand: the words, a file that couldn't be opened, a rank whose
--- count is full, a rank's input, a text that couldn't be written. `done` is what holds where nothing was refused. For
--- lack of memory no cause is given.
-abbrev pub EndsBy : (refused : UsageKind → Type 0) (unopened : ℕ → Type 0) (full : ℕ → ℕ → Type 0) (fault : ℕ → InputFault → Type 0) (unwritten done : Type 0) → Status → Type 0
-EndsBy refused unopened full fault unwritten done (Usage kind) = refused kind
-EndsBy refused unopened full fault unwritten done (OpenFault file) = unopened file
-EndsBy refused unopened full fault unwritten done (CountFull rank at) = full rank at
-EndsBy refused unopened full fault unwritten done (ReadFault rank) = fault rank Read
-EndsBy refused unopened full fault unwritten done (BadLine rank line why) = fault rank (Bad line why)
-EndsBy refused unopened full fault unwritten done WriteFault = unwritten
-EndsBy refused unopened full fault unwritten done Done = done
-EndsBy refused unopened full fault unwritten done NoMemory = ⊤
-
--- the words were accepted, and each file that they name was opened
-abbrev pub Opened : {S : Type 0} → Result (List (List ℕ)) UsageKind → List S → (List (List ℕ) → Type 0) → Type 0
-Opened order sources P = (names : List (List ℕ)) × (order ≡ Ok names) × (length sources ≡ length names) × P names
+-- The words are refused, and no file was opened; or they are accepted. `order` is what they ask for.
+abbrev pub words : {S : Type 0} → Result (List (List ℕ)) UsageKind → List S → Stage
+words order sources = record {
+  refuses = λ status. (kind : UsageKind) × (status ≡ Usage kind) × (order ≡ Err kind) × (sources ≡ []);
+  passes = IsOk order;
+}
 
 -- The file of this number is the first that couldn't be opened: those before it were, and no byte of them was read.
-pub record IsFirstUnopened {S : Type 0} (left : S → ExposedBytes) (faults : S → ℕ) (content : List ℕ → ExposedBytes) (names : List (List ℕ)) (sources : List S) (file : ℕ) : Type 0 where
-  pub within : file < length names
+-- `contents` are the bytes of the files. A source shows what remains in it (`left`) and its count of faults.
+pub record IsFirstUnopened {S : Type 0} (left : S → ExposedBytes) (faults : S → ℕ) (contents : List ExposedBytes) (sources : List S) (file : ℕ) : Type 0 where
+  pub within : file < length contents
   pub opened_before : length sources ≡ file
-  pub unread : map left sources ≡ map content (take file names)
+  pub unread : map left sources ≡ take file contents
   pub no_fault : (rank : ℕ) (source : S) → slice_get sources rank ≡ Some source → faults source ≡ 0
 
--- Why a run ended so. A refusal is reported only where none before it applies: the words are refused, or were accepted; a file
--- couldn't be opened, or each was; a rank's count is full; the input of the lowest rank with a fault failed, or all were
--- read to their ends; the text couldn't be written, or was. `order` is what the words ask for, and `content` what the
--- files contain. A source shows what remains in it (`left`) and its count of faults.
-abbrev pub RunEnds : {S : Type 0} → (S → ExposedBytes) → (S → ℕ) → Result (List (List ℕ)) UsageKind → (List ℕ → ExposedBytes) → List S → Type 0 → Type 0 → Status → Type 0
-RunEnds left faults order content sources opening writing =
-    EndsBy
-    (λ kind. (order ≡ Err kind) × (sources ≡ []))
-    (λ file. (names : List (List ℕ)) × (order ≡ Ok names) × IsFirstUnopened left faults content names sources file × opening)
-    (λ rank at. Opened order sources (λ names. IsFullAtRank left faults (map content names) sources rank at))
-    (λ rank found. Opened order sources (λ names. IsLowestFault left faults (map content names) sources rank found))
-    (Opened order sources (λ names. AllRead left faults (map content names) sources × writing))
-    (Opened order sources (λ names. AllRead left faults (map content names) sources))
+-- A file couldn't be opened, and the count of faults of the files rose; or each was opened, and the count stands.
+abbrev pub opens : {S : Type 0} → (S → ExposedBytes) → (S → ℕ) → List ExposedBytes → List S → ℕ → ℕ → Stage
+opens left faults contents sources count count_now = record {
+  refuses = λ status. (file : ℕ) × (status ≡ OpenFault file) × IsFirstUnopened left faults contents sources file × Rose count count_now;
+  passes = (length sources ≡ length contents) × (count_now ≡ count);
+}
 
--- the run was complete, or out of memory
-abbrev pub IsDoneIfMemory : Status → Type 0
-IsDoneIfMemory status = (status ≡ Done) ⊎ (status ≡ NoMemory)
+-- A rank's count is full. That a run goes on says nothing of the counts.
+abbrev pub counts : {S : Type 0} → (List ℕ → Option LineWhy) → (S → ExposedBytes) → (S → ℕ) → List ExposedBytes → List S → Stage
+counts wrong left faults contents sources = record {
+  refuses = λ status. (rank limit : ℕ) × (status ≡ CountFull rank limit) × IsFullAtRank wrong left faults contents sources rank limit;
+  passes = ⊤;
+}
+
+-- the status of a rank's fault
+abbrev pub of_input : ℕ → InputFault → Status
+of_input rank Read = ReadFault rank
+of_input rank (BadInput line why) = BadLine rank line why
+
+-- The input of this rank, the lowest with a fault, failed; or all files were read to their ends.
+abbrev pub inputs : {S : Type 0} → (List ℕ → Option LineWhy) → (S → ExposedBytes) → (S → ℕ) → List ExposedBytes → List S → Stage
+inputs wrong left faults contents sources = record {
+  refuses = λ status. (rank : ℕ) × (found : InputFault) × (status ≡ of_input rank found) × IsLowestFault wrong left faults contents sources rank found;
+  passes = AllRead wrong left faults contents sources;
+}
+
+-- The text couldn't be written, and the sink's count of faults rose; or it was written, and the count stands.
+abbrev pub writes : ℕ → ℕ → Stage
+writes count count_now = record {
+  refuses = λ status. (status ≡ WriteFault) × Rose count count_now;
+  passes = count_now ≡ count;
+}
+
+-- ---- what was written
+
+-- whether a run that ended so began to write its text
+abbrev pub may_write : Status → Bool
+may_write Done = true
+may_write WriteFault = true
+may_write status = false
+
+-- the first bytes of a text were appended to what was held, and not all of them
+abbrev pub FrontAppended : List ℕ → ExposedBytes → ExposedBytes → Type 0
+FrontAppended text before now = (count : ℕ) × (count < length text) × AppendedTo (take count text) before now
+
+-- A text was written: all of it where the run is done, and less than all where a write failed.
+pub record IsWritten (status : Status) (text : List ℕ) (before now : ExposedBytes) : Type 0 where
+  pub whole : status ≡ Done → AppendedTo text before now
+  pub front : status ≡ WriteFault → FrontAppended text before now
+
+-- What the verdict decides of a run: the text that it writes, and the bad line that it reports.
+pub record FollowsVerdict (verdict : Verdict) (status : Status) (before now : ExposedBytes) : Type 0 where
+  -- where the run writes, the verdict is a text, and this is what is written
+  pub written : may_write status ≡ true → (text : List ℕ) × (verdict ≡ Text text) × IsWritten status text before now
+  -- a bad line that is reported is the verdict's
+  pub bad_line : (rank line : ℕ) (why : LineWhy) → status ≡ BadLine rank line why → verdict ≡ Bad rank line why
+
+-- A text was appended to what a sink held: all of it, or less than all where a write failed. A sink shows what it holds
+-- and its count of faults.
+abbrev pub IsNoted : {N : Type 0} → (N → ExposedBytes) → (N → ℕ) → N → N → List ℕ → Type 0
+IsNoted holds faults before now text = AppendedTo text (holds before) (holds now) ⊎ (FrontAppended text (holds before) (holds now) × Rose (faults before) (faults now))

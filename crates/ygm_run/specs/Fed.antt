@@ -10,7 +10,10 @@ use Rattle.ygm_run.specs.declared.status.InputFault.{InputFault}
 use Rattle.ygm_run.specs.declared.status.InputFault.TheVariants.{Read, Bad}
 use Rattle.ygm_run.specs.Carried.{AreReady, Carried, sent_counts}
 use Rattle.world_core.specs.Limits.{most_letters}
-use Rattle.ygm_run.specs.Limits.{max_line}
+use Rattle.ygm_run.specs.declared.status.LineWhy.{LineWhy}
+use Rattle.ygm_run.specs.declared.status.LineWhy.TheVariants.{TooLong}
+use Rattle.ygm_run.specs.BadLines.{first_wrong}
+use Rattle.ygm_run.specs.Limits.{max_line, max_piece}
 use Rattle.ygm_run.specs.Lines.{lines_of, raw_lines, text_of, LacksLf, StartsTooLong}
 use Rattle.ygm_run.specs.Reading.{Reading}
 use Rattle.ygm_run.specs.Turns.{PieceBehind, RawLineTaken, to_come}
@@ -42,7 +45,12 @@ turns_left sent held = (most_letters - sent) * (2 * max_line) + (max_line - leng
 abbrev pub EndedWith : Option InputFault → Reading → ExposedBytes → ℕ → ℕ → Type 0
 EndedWith None reader left faults faults_now = (reader.held ≡ []) × NothingLeft left × (faults_now ≡ faults)
 EndedWith (Some Read) reader left faults faults_now = Rose faults faults_now × LacksLf reader.held × (length reader.held ≤ max_line)
-EndedWith (Some (Bad line why)) reader left faults faults_now = IfSome (to_come reader.held left) StartsTooLong × (line ≡ reader.given + 1) × (faults_now ≡ faults) × (before : List ℕ) × PieceBehind before reader.held
+EndedWith (Some (Bad line why)) reader left faults faults_now = IfSome (to_come reader.held left) StartsTooLong × (why ≡ TooLong) × (line ≡ reader.given + 1) × (faults_now ≡ faults) × (before : List ℕ) × PieceBehind before reader.held
+
+-- What was read before the piece that made a line bad has no bad line, and nothing was read after that piece.
+abbrev pub StopsAtPiece : (List ℕ → Option LineWhy) → ExposedBytes → ExposedBytes → Option InputFault → Type 0
+StopsAtPiece wrong content left fault = (line : ℕ) (why : LineWhy) → fault ≡ Some (Bad line why) → (front piece : List ℕ) × (length piece ≤ max_piece)
+    × TakenFrom (front ++ piece) content left × (first_wrong wrong (raw_lines front) ≡ None)
 
 -- a line is to come that isn't too long
 abbrev pub HasLine : ExposedBytes → Type 0

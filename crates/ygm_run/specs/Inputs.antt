@@ -1,91 +1,77 @@
 -- How the files of the ranks were read, and which of their faults is reported.
-use Rattle.std.specs.Prelude.{◌≡◌, ◌↔◌, ℕ, ◌<◌, ◌≤◌, List, [], ◌∷◌, ◌++◌, Option, None, Some, IfSome, length, nat_lt, slice_get, if◌then◌else◌}
+use Rattle.std.specs.Prelude.{◌≡◌, ◌↔◌, ℕ, ◌<◌, ◌≤◌, List, Option, None, Some, IfSome, length, slice_get}
 use Rattle.ygm_io.specs.Content.{ExposedBytes, TakenFrom, NothingLeft}
 use Rattle.ygm_run.specs.declared.status.InputFault.{InputFault}
 use Rattle.ygm_run.specs.declared.status.InputFault.TheVariants.{Read, Bad}
 use Rattle.ygm_run.specs.declared.status.LineWhy.{LineWhy}
 use Rattle.world_core.specs.Limits.{most_letters}
-use Rattle.ygm_run.specs.Limits.{max_line, max_piece}
-use Rattle.ygm_run.specs.Lines.{raw_lines, ended_lines, first_too_long}
+use Rattle.ygm_run.specs.BadLines.{first_wrong, good_lines}
+use Rattle.ygm_run.specs.Lines.{raw_lines, ended_lines}
 
 -- what remains of a content: some prefix of it was taken
 abbrev pub IsRest : ExposedBytes → ExposedBytes → Type 0
 IsRest content left = (front : List ℕ) × TakenFrom front content left
 
--- the number of the bad line that was met, if one was
-abbrev pub bad_line : Option InputFault → Option ℕ
+-- the bad line that was met, if one was: its number and why it is bad
+abbrev pub bad_line : Option InputFault → Option (ℕ × LineWhy)
 bad_line None = None
 bad_line (Some Read) = None
-bad_line (Some (Bad line why)) = Some line
+bad_line (Some (Bad line why)) = Some (line, why)
 
--- the raw lines before the first that has too many bytes
-abbrev pub good_lines : List (List ℕ) → List (List ℕ)
-good_lines [] = []
-good_lines (raw ∷ raws) = if nat_lt max_line (length raw) then [] else raw ∷ good_lines raws
-
--- After a failed read, what remains in the source is what remained in some source without a fault, before that read. So
--- nothing was taken after the failed read.
-abbrev pub NothingBehind : {S : Type 0} → (S → ExposedBytes) → (S → ℕ) → S → Option InputFault → Type 0
-NothingBehind {S} left faults source fault = fault ≡ Some Read → (before : S) × (faults before ≡ 0) × (left before ≡ left source)
-
--- A source was read to its end or to its first fault. `left` is what remains in a source, `faults` its count of faults;
--- `content` is what this one had at first, `source` the source now, and `fault` that fault.
-pub record IsRead {S : Type 0} (left : S → ExposedBytes) (faults : S → ℕ) (content : ExposedBytes) (source : S) (fault : Option InputFault) : Type 0 where
+-- A source was read to its end or to its first fault. `wrong` says which lines are bad, `left` is what remains in a
+-- source, `faults` its count of faults; `content` is what this one had at first, `source` the source now, and `fault` that
+-- fault.
+pub record IsRead {S : Type 0} (wrong : List ℕ → Option LineWhy) (left : S → ExposedBytes) (faults : S → ℕ) (content : ExposedBytes) (source : S) (fault : Option InputFault) : Type 0 where
   -- a read of it failed exactly where its count of faults is above 0
   pub read : (fault ≡ Some Read) ↔ (0 < faults source)
-  -- where none failed, the bad line is the first one of the content, if there is one
-  pub bad : faults source ≡ 0 → IfSome content (λ bytes. bad_line fault ≡ first_too_long (raw_lines bytes))
+  -- where none failed, the bad line is the first one of the content, if there is one, for the reason that it has
+  pub bad : faults source ≡ 0 → IfSome content (λ bytes. bad_line fault ≡ first_wrong wrong (raw_lines bytes))
   -- without a fault nothing remains
   pub to_its_end : fault ≡ None → NothingLeft (left source)
   -- what was read before a failed read has no bad line, and at most as many line ends as a rank may send letters
-  pub before_read : fault ≡ Some Read → (front : List ℕ) × TakenFrom front content (left source) × (first_too_long (raw_lines front) ≡ None) × (ended_lines front ≤ most_letters)
-  -- nothing was taken after a failed read
-  pub nothing_behind : NothingBehind left faults source fault
-  -- what was read before the piece that made a line bad has no bad line, and nothing was read after that piece
-  pub stops : (line : ℕ) (why : LineWhy) → fault ≡ Some (Bad line why) → (front piece : List ℕ) × (length piece ≤ max_piece)
-      × TakenFrom (front ++ piece) content (left source) × (first_too_long (raw_lines front) ≡ None)
+  pub before_read : fault ≡ Some Read → (front : List ℕ) × TakenFrom front content (left source) × (first_wrong wrong (raw_lines front) ≡ None) × (ended_lines front ≤ most_letters)
   -- where no read failed, at most as many lines come before a bad one as a rank may send letters
-  pub few : faults source ≡ 0 → IfSome content (λ bytes. length (good_lines (raw_lines bytes)) ≤ most_letters)
+  pub few : faults source ≡ 0 → IfSome content (λ bytes. length (good_lines wrong (raw_lines bytes)) ≤ most_letters)
 
 -- A rank's count of letters is full, at the limit that its counter reports: its file, which has this content and this
 -- count of faults, has more lines before a bad one than a rank may send letters.
-pub record IsFull (content : ExposedBytes) (faults limit : ℕ) : Type 0 where
+pub record IsFull (wrong : List ℕ → Option LineWhy) (content : ExposedBytes) (faults limit : ℕ) : Type 0 where
   pub limit_is : limit ≡ most_letters
-  pub lines : IfSome content (λ bytes. most_letters < length (good_lines (raw_lines bytes)))
+  pub lines : IfSome content (λ bytes. most_letters < length (good_lines wrong (raw_lines bytes)))
   pub no_read_failed : faults ≡ 0
 
 -- the files of the ranks, in their order, were read, each with its fault
-abbrev pub AreRead : {S : Type 0} → (S → ExposedBytes) → (S → ℕ) → List ExposedBytes → List S → (ℕ → Option InputFault) → Type 0
-AreRead {S} left faults contents sources fault =
-    (rank : ℕ) (content : ExposedBytes) (source : S) → slice_get contents rank ≡ Some content → slice_get sources rank ≡ Some source → IsRead left faults content source (fault rank)
+abbrev pub AreRead : {S : Type 0} → (List ℕ → Option LineWhy) → (S → ExposedBytes) → (S → ℕ) → List ExposedBytes → List S → (ℕ → Option InputFault) → Type 0
+AreRead {S} wrong left faults contents sources fault =
+    (rank : ℕ) (content : ExposedBytes) (source : S) → slice_get contents rank ≡ Some content → slice_get sources rank ≡ Some source → IsRead wrong left faults content source (fault rank)
 
 -- the files of the first ranks were read
-abbrev pub FirstAreRead : {S : Type 0} → (S → ExposedBytes) → (S → ℕ) → List ExposedBytes → List S → ℕ → (ℕ → Option InputFault) → Type 0
-FirstAreRead {S} left faults contents sources ranks fault =
-    (rank : ℕ) (content : ExposedBytes) (source : S) → rank < ranks → slice_get contents rank ≡ Some content → slice_get sources rank ≡ Some source → IsRead left faults content source (fault rank)
+abbrev pub FirstAreRead : {S : Type 0} → (List ℕ → Option LineWhy) → (S → ExposedBytes) → (S → ℕ) → List ExposedBytes → List S → ℕ → (ℕ → Option InputFault) → Type 0
+FirstAreRead {S} wrong left faults contents sources ranks fault =
+    (rank : ℕ) (content : ExposedBytes) (source : S) → rank < ranks → slice_get contents rank ≡ Some content → slice_get sources rank ≡ Some source → IsRead wrong left faults content source (fault rank)
 
 -- all files were read to their ends
-abbrev pub AllRead : {S : Type 0} → (S → ExposedBytes) → (S → ℕ) → List ExposedBytes → List S → Type 0
-AllRead left faults contents sources = AreRead left faults contents sources (λ rank. None)
+abbrev pub AllRead : {S : Type 0} → (List ℕ → Option LineWhy) → (S → ExposedBytes) → (S → ℕ) → List ExposedBytes → List S → Type 0
+AllRead wrong left faults contents sources = AreRead wrong left faults contents sources (λ rank. None)
 
 -- all files were read, and this fault is that of the lowest rank that has one
-pub record IsLowestFault {S : Type 0} (left : S → ExposedBytes) (faults : S → ℕ) (contents : List ExposedBytes) (sources : List S) (rank : ℕ) (found : InputFault) : Type 0 where
+pub record IsLowestFault {S : Type 0} (wrong : List ℕ → Option LineWhy) (left : S → ExposedBytes) (faults : S → ℕ) (contents : List ExposedBytes) (sources : List S) (rank : ℕ) (found : InputFault) : Type 0 where
   pub fault : ℕ → Option InputFault
-  pub read : AreRead left faults contents sources fault
+  pub read : AreRead wrong left faults contents sources fault
   pub within : rank < length sources
   pub here : fault rank ≡ Some found
   pub none_below : (lower : ℕ) → lower < rank → fault lower ≡ None
 
 -- The count of letters of a rank is full, and of no rank below. The files of the ranks below were read, each to its end
 -- or its first fault.
-pub record IsFullAtRank {S : Type 0} (left : S → ExposedBytes) (faults : S → ℕ) (contents : List ExposedBytes) (sources : List S) (rank limit : ℕ) : Type 0 where
+pub record IsFullAtRank {S : Type 0} (wrong : List ℕ → Option LineWhy) (left : S → ExposedBytes) (faults : S → ℕ) (contents : List ExposedBytes) (sources : List S) (rank limit : ℕ) : Type 0 where
   pub content : ExposedBytes
   pub source : S
   pub content_is : slice_get contents rank ≡ Some content
   pub source_is : slice_get sources rank ≡ Some source
-  pub full : IsFull content (faults source) limit
+  pub full : IsFull wrong content (faults source) limit
   pub fault : ℕ → Option InputFault
-  pub read_below : FirstAreRead left faults contents sources rank fault
+  pub read_below : FirstAreRead wrong left faults contents sources rank fault
 
 -- what remains of each file that was opened is a suffix of it
 abbrev pub AreRests : {S : Type 0} → (S → ExposedBytes) → List ExposedBytes → List S → Type 0

@@ -1,8 +1,7 @@
 -- What the job tally reads from its sources.
-use Rattle.std.specs.Prelude.{◌≡◌, ℕ, ◌+◌, ◌*◌, List, None, Some, map, length}
-use Rattle.std.specs.List.{AllByRecursion}
+use Rattle.std.specs.Prelude.{◌≡◌, ℕ, ◌+◌, ◌*◌, List, Some, map, length}
 use Rattle.ygm_io.specs.Content.{ExposedBytes}
-use Rattle.ygm_run.specs.Lines.{first_too_long, lines_of, raw_lines}
+use Rattle.ygm_run.specs.Lines.{lines_of}
 use Rattle.ygm_run.specs.TallyText.{all_lines}
 
 -- all sources expose their bytes, and these are they
@@ -16,7 +15,3 @@ lines_of_each bytes = map lines_of bytes
 -- a bound on the letters that a rank of the job sends, by the lines of all files
 abbrev pub letters_bound : List (List (List ℕ)) → ℕ
 letters_bound files = 2 * length (all_lines files) + 3
-
--- no line of the files is bad
-abbrev pub AreGood : List (List ℕ) → Type 0
-AreGood files = AllByRecursion (λ bytes. first_too_long (raw_lines bytes) ≡ None) files

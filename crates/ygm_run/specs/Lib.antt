@@ -1,3 +1,4 @@
+pub mod BadLines
 pub mod Carried
 pub mod Ending
 pub mod Fed
@@ -9,6 +10,8 @@ pub mod Limits
 pub mod Lines
 pub mod Notes
 pub mod Reading
+pub mod Refusals
 pub mod TallyText
 pub mod Turns
+pub mod Verdict
 pub mod Words

@@ -1,5 +1,5 @@
 -- How a run ends, as a number and as a note. A name is the list of its bytes.
-use Rattle.std.specs.Prelude.{ℕ, ◌<◌, List, [], ◌++◌, codes, decimal, slice_get, unwrap_or, ⊤}
+use Rattle.std.specs.Prelude.{◌≡◌, ℕ, ◌<◌, Bool, true, false, List, [], ◌++◌, codes, decimal, slice_get, unwrap_or}
 use Rattle.ygm_run.specs.declared.status.LineWhy.{LineWhy}
 use Rattle.ygm_run.specs.declared.status.LineWhy.TheVariants.{TooLong}
 use Rattle.ygm_run.specs.declared.status.Status.{Status}
@@ -42,11 +42,12 @@ note_text (CountFull rank at) names = note_line (codes "rank " ++ decimal rank +
 
 -- if the status names a file, its number is below this count
 abbrev pub FileIsBelow : ℕ → Status → Type 0
-FileIsBelow count Done = ⊤
-FileIsBelow count (Usage kind) = ⊤
-FileIsBelow count (OpenFault file) = file < count
-FileIsBelow count (ReadFault rank) = ⊤
-FileIsBelow count (BadLine rank line why) = ⊤
-FileIsBelow count WriteFault = ⊤
-FileIsBelow count NoMemory = ⊤
-FileIsBelow count (CountFull rank at) = ⊤
+FileIsBelow count status = (file : ℕ) → status ≡ OpenFault file → file < count
+
+-- whether the note of a status takes memory: the others are the same in each run
+abbrev pub note_takes_memory : Status → Bool
+note_takes_memory (OpenFault file) = true
+note_takes_memory (ReadFault rank) = true
+note_takes_memory (BadLine rank line why) = true
+note_takes_memory (CountFull rank at) = true
+note_takes_memory status = false

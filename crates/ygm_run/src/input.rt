@@ -2,8 +2,9 @@
 ghost use Rattle.std.specs.Prelude.{◌≡◌, ◌<◌, ◌≤◌, ◌^◌, false, slice_index, IfOk, IfErr, OnOk};
 ghost use Rattle.comm_rank.specs.Fault.{IfCountFull, NeverStopped};
 ghost use Rattle.world_core.specs.Limits.{most_letters};
+ghost use Rattle.ygm_run.specs.BadLines.{tally_wrong};
 ghost use Rattle.ygm_run.specs.Carried.{AreReady, sent_counts};
-ghost use Rattle.ygm_run.specs.Fed.{FullAtLine, IsSent, TurnFed};
+ghost use Rattle.ygm_run.specs.Fed.{FullAtLine, IsSent, StopsAtPiece, TurnFed};
 ghost use Rattle.ygm_run.specs.Inputs.{IsFull, IsRead, IsRest};
 
 use crate::line_reader::{Got, LineFault, LineReader};
@@ -62,8 +63,10 @@ pub(crate) fn read_file<S: Source>(
     requires fresh { S.faults source.old ≡ 0 }
     ensures ready { OnOk result (AreReady world.new.comms.items world.new.links) }
     ensures sent { IfOk result (IsSent world.old.ranks rank world.old.comms.items world.new.comms.items world.old.links world.new.links (S.left source.old)) }
-    ensures read { IfOk result (IsRead S.left S.faults (S.left source.old) source.new) }
-    ensures full { IfErr result (λ fault. IfCountFull fault (IsFull (S.left source.old) (S.faults source.new))) }
+    ensures read { IfOk result (IsRead tally_wrong S.left S.faults (S.left source.old) source.new) }
+    // A file with a bad line is read no further than the piece that made the line bad.
+    ensures stops { IfOk result (StopsAtPiece tally_wrong (S.left source.old) (S.left source.new)) }
+    ensures full { IfErr result (λ fault. IfCountFull fault (IsFull tally_wrong (S.left source.old) (S.faults source.new))) }
     ensures never_stopped { IfErr result NeverStopped }
     ensures rest { IsRest (S.left source.old) (S.left source.new) }
     ensures ranks { world.new.ranks ≡ world.old.ranks }

@@ -4,6 +4,7 @@
 ghost use Rattle.std.specs.Prelude.{◌≡◌, ◌⊎◌, drop, IfErr, IfOk};
 ghost use Rattle.std.specs.Vec.Iter.{into_iter_items};
 
+pub mod ending_laws;
 mod input;
 pub mod limit_laws;
 pub mod line_laws;
@@ -16,7 +17,9 @@ mod tally;
 pub mod tally_text;
 #[cfg(test)]
 mod tests;
+pub mod verdict_laws;
 pub mod words;
+pub mod words_laws;
 mod world;
 
 pub use running::run;

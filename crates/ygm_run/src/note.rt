@@ -1,6 +1,6 @@
 //! The note of a status: what the program writes about how it ended.
-ghost use Rattle.std.specs.Prelude.{◌≡◌, IfOk, length, string_bytes};
-ghost use Rattle.ygm_run.specs.Notes.{FileIsBelow, note_text};
+ghost use Rattle.std.specs.Prelude.{◌≡◌, true, ℕ, List, IfOk, MatchOption, length, string_bytes};
+ghost use Rattle.ygm_run.specs.Notes.{FileIsBelow, note_takes_memory, note_text};
 ghost use Rattle.ygm_run.specs.Words.{texts_of};
 
 use crate::status::Status;
@@ -12,6 +12,23 @@ pub(crate) const WRITE_FAILED: &str = "ygm_run: write failed\n";
 
 /// The note of memory that ran out. It takes none.
 pub(crate) const OUT_OF_MEMORY: &str = "ygm_run: out of memory\n";
+
+/// The note of a status, if it is the same in each run with this status. It takes no memory.
+pub(crate) fn fixed_note(status: &Status) -> Option<&'static str>
+    ensures { MatchOption result (note_takes_memory status.now ≡ true)
+        (λ note. (names : List (List ℕ)) → note.now ≡ note_text status.now names) }
+{
+    match status {
+        Status::Done => Some(""),
+        Status::Usage { kind } => Some(kind.note()),
+        Status::WriteFault => Some(WRITE_FAILED),
+        Status::NoMemory => Some(OUT_OF_MEMORY),
+        Status::OpenFault { .. }
+        | Status::ReadFault { .. }
+        | Status::BadLine { .. }
+        | Status::CountFull { .. } => None,
+    }
+}
 
 /// The text of a status's note.
 fn text_of(alloc: Global, status: &Status, names: &[String]) -> Result<String, AllocError>

@@ -3,6 +3,7 @@ ghost use Rattle.std.specs.Prelude.{◌≡◌, ◌<◌, ◌≤◌, ℕ, List, []
 ghost use Rattle.std.specs.Option.{option_map};
 ghost use Rattle.comm_rank.specs.Fault.{NeverStopped};
 ghost use Rattle.ygm_route.specs.Layout.{max_ranks};
+ghost use Rattle.ygm_run.specs.BadLines.{tally_wrong};
 ghost use Rattle.ygm_run.specs.Carried.{AreReady, Carried};
 ghost use Rattle.ygm_run.specs.JobEnds.{IsFaultOf, JobStops, OfText};
 ghost use Rattle.ygm_run.specs.Inputs.{AllRead, AreRests};
@@ -69,8 +70,8 @@ fn read_all<S: Source>(alloc: Global, world: &mut World, sources: &mut [S]) -> R
     ensures ready { OnOk result (AreReady world.new.comms.items world.new.links) }
     ensures sent { OnOk result ((bytes : List (List ℕ)) → AreExposed (map S.left sources.old) bytes
         → Carried (λ rank. slice_index_or (lines_of_each bytes) rank []) world.old.ranks world.new.comms.items world.new.links) }
-    ensures read { OnOk result (AllRead S.left S.faults (map S.left sources.old) sources.new) }
-    ensures cause { IfErr result (JobStops S.left S.faults (map S.left sources.old) sources.new) }
+    ensures read { OnOk result (AllRead tally_wrong S.left S.faults (map S.left sources.old) sources.new) }
+    ensures cause { IfErr result (JobStops tally_wrong S.left S.faults (map S.left sources.old) sources.new) }
     ensures rests { AreRests S.left (map S.left sources.old) sources.new }
     ensures ranks { world.new.ranks ≡ world.old.ranks }
 {
@@ -94,8 +95,8 @@ pub(crate) fn tally<S: Source>(alloc: Global, sources: &mut [S]) -> Result<Vec<u
     requires few { length sources.old ≤ max_ranks }
     requires fresh { (rank : ℕ) (source : S) → slice_get sources.old rank ≡ Some source → S.faults source ≡ 0 }
     ensures text { IfOk result (λ text. OfText (map S.left sources.old) (λ all. text.items ≡ all)) }
-    ensures read { OnOk result (AllRead S.left S.faults (map S.left sources.old) sources.new) }
-    ensures cause { IfErr result (JobStops S.left S.faults (map S.left sources.old) sources.new) }
+    ensures read { OnOk result (AllRead tally_wrong S.left S.faults (map S.left sources.old) sources.new) }
+    ensures cause { IfErr result (JobStops tally_wrong S.left S.faults (map S.left sources.old) sources.new) }
     ensures rests { AreRests S.left (map S.left sources.old) sources.new }
 {
     let Ok(layout) = Layout::new(sources.len() as u32, 1) else {

@@ -52,16 +52,17 @@ data_put log now placed gained all more =
     let whole : letters_put now ≡ letters_put log ++ letters_put placed = ap letters_put gained ∙ flat_map-append letters_put_by log placed in
     subst (AllByRecursion (λ l. IsTrue (is_data l))) (sym whole) (all_append (λ l. IsTrue (is_data l)) (letters_put log) (letters_put placed) all more)
 
-puts_none : (taken : List Entry) → AllByRecursion IsTake taken → letters_put taken ≡ []
-puts_none [] takes = refl
-puts_none (Took from batch ∷ taken) takes = puts_none taken takes.1
-puts_none (Put to batch ∷ taken) takes = absurd takes.0
+-- takes put no letter
+pub takes_put_none : (taken : List Entry) → AllByRecursion IsTake taken → letters_put taken ≡ []
+takes_put_none [] takes = refl
+takes_put_none (Took from batch ∷ taken) takes = takes_put_none taken takes.1
+takes_put_none (Put to batch ∷ taken) takes = absurd takes.0
 
 -- and so does one that a turn ended or cut off
 pub data_gained : (before after taken placed : List Entry) → Gained before after taken placed → PutsData before →
     PutsData after
 data_gained before after taken placed gained all =
-    let none : PutsData taken = subst (AllByRecursion (λ l. IsTrue (is_data l))) (sym (puts_none taken gained.takes)) tt in
+    let none : PutsData taken = subst (AllByRecursion (λ l. IsTrue (is_data l))) (sym (takes_put_none taken gained.takes)) tt in
     data_put (before ++ taken) after placed gained.log (data_put before (before ++ taken) taken refl all none) gained.data_alone
 
 -- ---- the rank
@@ -161,6 +162,7 @@ module _ {C : Type 0} (apply : Applies C) (start : C → C) (me : Rank C) (old :
     count = p.count;
     none_or_full = λ to within. p.none_or_full to (omega (arith, within, is));
     first_full = subst (λ n. FirstFull n held old new full) is p.first_full;
+    none_held = λ none to within. p.none_held none to (omega (arith, within, is));
   }
 
   pub put_all_failed : (held : List (List Letter)) (new : PostState) (fault : CommFault) → PutsFailed me.here me.held held old new fault → PutAllFailed me (record me { held = held }) old new fault

@@ -7,21 +7,21 @@ use Rattle.comm_rank.specs.declared.fault.CommFault.{CommFault}
 use Rattle.comm_rank.specs.Fault.{IfCountFull}
 use Rattle.comm_rank.specs.declared.fault.CommFault.TheVariants.{CountFull, NoMemory, Stopped}
 use Rattle.ygm_run.specs.Fed.{LinesTaken, HasLine}
-use Rattle.ygm_run.specs.Inputs.{good_lines}
+use Rattle.ygm_run.specs.BadLines.{good_lines, tally_wrong}
 use Rattle.ygm_run.specs.Limits.{max_line}
 use Rattle.ygm_run.specs.Lines.{raw_lines}
 use Rattle.ygm_run.proofs.Fed.LinesTaken.{line_cut, lines_more, whole_lines}
 use Rattle.ygm_run.proofs.Inputs.GoodLines.{good_before}
 
 -- lines were taken, and one more is to come: so many and one come before any that is too long
-pub many_good : (raws : List (List ℕ)) (before now : ExposedBytes) → AllByRecursion (λ raw. length raw ≤ max_line) raws → LinesTaken raws before now → HasLine now → IfSome before (λ bytes. length raws < length (good_lines (raw_lines bytes)))
+pub many_good : (raws : List (List ℕ)) (before now : ExposedBytes) → AllByRecursion (λ raw. length raw ≤ max_line) raws → LinesTaken raws before now → HasLine now → IfSome before (λ bytes. length raws < length (good_lines tally_wrong (raw_lines bytes)))
 many_good raws before now short taken (text, rest, line) = of before rest (lines_more raws (line.raw ∷ []) before now rest taken (line_cut line.raw now rest line.partial line.cut)) where
-  of : (all rest : ExposedBytes) → LinesTaken (raws ++ line.raw ∷ []) all rest → IfSome all (λ bytes. length raws < length (good_lines (raw_lines bytes)))
+  of : (all rest : ExposedBytes) → LinesTaken (raws ++ line.raw ∷ []) all rest → IfSome all (λ bytes. length raws < length (good_lines tally_wrong (raw_lines bytes)))
   of None rest taken_all = tt
   of (Some bytes) None taken_all = absurd (let e = taken_all.taken in cc)
   of (Some bytes) (Some later) taken_all =
       let good = good_before (raws ++ line.raw ∷ []) (raw_lines later) (all_append (λ raw. length raw ≤ max_line) raws (line.raw ∷ []) short (line.short, tt)) in
-      omega (arith, good, length-append raws (line.raw ∷ []), ap (λ w. length (good_lines w)) (whole_lines (raws ++ line.raw ∷ []) bytes later taken_all))
+      omega (arith, good, length-append raws (line.raw ∷ []), ap (λ w. length (good_lines tally_wrong w)) (whole_lines (raws ++ line.raw ∷ []) bytes later taken_all))
 
 -- of the limit of a full count, one fact from another
 pub full_so : (P Q : ℕ → Type 0) (fault : CommFault) → ((limit : ℕ) → P limit → Q limit) → IfCountFull fault P → IfCountFull fault Q

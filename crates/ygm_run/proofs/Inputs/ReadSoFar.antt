@@ -11,6 +11,7 @@ use Rattle.comm_rank.specs.Rank.{Rank}
 use Rattle.counting_set.specs.Counting.{Counts}
 use Rattle.ygm_io.specs.Content.{ExposedBytes}
 use Rattle.ygm_run.specs.declared.status.InputFault.{InputFault}
+use Rattle.ygm_run.specs.declared.status.LineWhy.{LineWhy}
 use Rattle.ygm_run.specs.Carried.{Carried, sent_counts}
 use Rattle.ygm_run.specs.Fed.{IsSent, with_lines}
 use Rattle.ygm_run.specs.Inputs.{AllRead, AreRests, IsFull, IsFullAtRank, IsLowestFault, IsRead, IsRest}
@@ -21,12 +22,12 @@ use Rattle.ygm_run.proofs.Inputs.IsRest.{rest_none}
 use Rattle.ygm_run.proofs.Inputs.LowestFault.{LowestBelow, at_other, at_same, lowest_more, with_fault}
 
 -- The files of the first ranks were read, and the lines before each fault are on their way. The others are unchanged.
-pub record ReadSoFar {S : Type 0} (left : S → ExposedBytes) (faults : S → ℕ) (n : ℕ) (start sources : List S) (k : ℕ) (comms : List (Rank Counts)) (links : Plain) (lowest : Option (ℕ × InputFault)) : Type 0 where
+pub record ReadSoFar {S : Type 0} (wrong : List ℕ → Option LineWhy) (left : S → ExposedBytes) (faults : S → ℕ) (n : ℕ) (start sources : List S) (k : ℕ) (comms : List (Rank Counts)) (links : Plain) (lowest : Option (ℕ × InputFault)) : Type 0 where
   pub own : ℕ → List (List ℕ)
   pub fault : ℕ → Option InputFault
   pub carried : Carried own n comms links
   pub above : (r : ℕ) → k ≤ r → own r ≡ []
-  pub read : (r : ℕ) (content : ExposedBytes) (source : S) → r < k → slice_get (map left start) r ≡ Some content → slice_get sources r ≡ Some source → IsRead left faults content source (fault r)
+  pub read : (r : ℕ) (content : ExposedBytes) (source : S) → r < k → slice_get (map left start) r ≡ Some content → slice_get sources r ≡ Some source → IsRead wrong left faults content source (fault r)
   pub lines : (r : ℕ) (content : ExposedBytes) → r < k → fault r ≡ None → slice_get (map left start) r ≡ Some content → IfSome content (λ bytes. own r ≡ lines_of bytes)
   pub untouched : (r : ℕ) → k ≤ r → slice_get sources r ≡ slice_get start r
   pub rests : AreRests left (map left start) sources
@@ -42,8 +43,8 @@ with_other own rank other lines ne = ap (λ b. cond b (own other ++ lines) (own 
 start_at : {X : Type 0} (left : X → ExposedBytes) (start : List X) (r : ℕ) (content : ExposedBytes) (source : X) → slice_get (map left start) r ≡ Some content → slice_get start r ≡ Some source → IsRest content (left source)
 start_at left start r content source is at = subst (λ t. IsRest t (left source)) (field_at left start r source content at is) (rest_none (left source))
 
-pub read_none : {S : Type 0} (left : S → ExposedBytes) (faults : S → ℕ) (n : ℕ) (start : List S) (comms : List (Rank Counts)) (links : Plain) → Carried (λ _. []) n comms links → ReadSoFar left faults n start start 0 comms links None
-read_none left faults n start comms links c = record {
+pub read_none : {S : Type 0} (wrong : List ℕ → Option LineWhy) (left : S → ExposedBytes) (faults : S → ℕ) (n : ℕ) (start : List S) (comms : List (Rank Counts)) (links : Plain) → Carried (λ _. []) n comms links → ReadSoFar wrong left faults n start start 0 comms links None
+read_none wrong left faults n start comms links c = record {
   own = λ _. [];
   fault = λ _. None;
   carried = c;
@@ -64,11 +65,11 @@ rests_more left start sources k item now rests at rest r content source is found
   | inr ne ↦ rests r content source is (sym (item_kept sources k r now ne) ∙ found)
 ]
 
-pub read_more : {S : Type 0} (left : S → ExposedBytes) (faults : S → ℕ) (n : ℕ) (start sources : List S) (k : ℕ) (s1 s2 : List (Rank Counts)) (l1 l2 : Plain) (lowest lowest' : Option (ℕ × InputFault)) (item now : S) (new : Option InputFault)
-    → ReadSoFar left faults n start sources k s1 l1 lowest → slice_get start k ≡ Some item → IsSent n k s1 s2 l1 l2 (left item) new → IsRead left faults (left item) now new → IsRest (left item) (left now)
+pub read_more : {S : Type 0} (wrong : List ℕ → Option LineWhy) (left : S → ExposedBytes) (faults : S → ℕ) (n : ℕ) (start sources : List S) (k : ℕ) (s1 s2 : List (Rank Counts)) (l1 l2 : Plain) (lowest lowest' : Option (ℕ × InputFault)) (item now : S) (new : Option InputFault)
+    → ReadSoFar wrong left faults n start sources k s1 l1 lowest → slice_get start k ≡ Some item → IsSent n k s1 s2 l1 l2 (left item) new → IsRead wrong left faults (left item) now new → IsRest (left item) (left now)
     → (lowest ≡ None → lowest' ≡ option_map (λ found. (k, found)) new) → ((found : ℕ × InputFault) → lowest ≡ Some found → lowest' ≡ lowest)
-    → ReadSoFar left faults n start (set sources k now) (k + 1) s2 l2 lowest'
-read_more {S} left faults n start sources k s1 s2 l1 l2 lowest lowest' item now new so at sent isread rest none some = record {
+    → ReadSoFar wrong left faults n start (set sources k now) (k + 1) s2 l2 lowest'
+read_more {S} wrong left faults n start sources k s1 s2 l1 l2 lowest lowest' item now new so at sent isread rest none some = record {
   own = with_lines so.own k sent.lines;
   fault = with_fault so.fault k new;
   carried = sent.carried so.own so.carried;
@@ -77,9 +78,9 @@ read_more {S} left faults n start sources k s1 s2 l1 l2 lowest lowest' item now 
     | inl e ↦
         let same = item_placed sources k r source now e found in
         let first = field_at left start k item content at (subst (λ i. slice_get (map left start) i ≡ Some content) e is) in
-        subst (IsRead left faults content source) (sym (at_same so.fault k r new e))
-        (subst (λ t. IsRead left faults t source new) first (subst (λ (x : S). IsRead left faults (left item) x new) same isread))
-    | inr ne ↦ subst (IsRead left faults content source) (sym (at_other so.fault k r new ne)) (so.read r content source (omega (arith, lt, ne)) is (sym (item_kept sources k r now ne) ∙ found))
+        subst (IsRead wrong left faults content source) (sym (at_same so.fault k r new e))
+        (subst (λ t. IsRead wrong left faults t source new) first (subst (λ (x : S). IsRead wrong left faults (left item) x new) same isread))
+    | inr ne ↦ subst (IsRead wrong left faults content source) (sym (at_other so.fault k r new ne)) (so.read r content source (omega (arith, lt, ne)) is (sym (item_kept sources k r now ne) ∙ found))
   ];
   lines = λ r content lt no is. elim (cases_eq r k) [
     | inl e ↦
@@ -102,15 +103,15 @@ unsent [] k h = refl
 unsent (x ∷ xs) zero h = h x refl
 unsent (x ∷ xs) (suc k) h = unsent xs k h
 
-pub unsent_so_far : {S : Type 0} (left : S → ExposedBytes) (faults : S → ℕ) (n : ℕ) (start sources : List S) (k : ℕ) (comms : List (Rank Counts)) (links : Plain) (lowest : Option (ℕ × InputFault)) → ReadSoFar left faults n start sources k comms links lowest → get_or (sent_counts comms) k 0 ≡ 0
-unsent_so_far left faults n start sources k comms links lowest so = unsent comms k (λ state at. so.carried.counted k state at ∙ ap length (so.above k (omega arith)))
+pub unsent_so_far : {S : Type 0} (wrong : List ℕ → Option LineWhy) (left : S → ExposedBytes) (faults : S → ℕ) (n : ℕ) (start sources : List S) (k : ℕ) (comms : List (Rank Counts)) (links : Plain) (lowest : Option (ℕ × InputFault)) → ReadSoFar wrong left faults n start sources k comms links lowest → get_or (sent_counts comms) k 0 ≡ 0
+unsent_so_far wrong left faults n start sources k comms links lowest so = unsent comms k (λ state at. so.carried.counted k state at ∙ ap length (so.above k (omega arith)))
 
 -- all files were read to their ends
-pub all_read : {S : Type 0} (left : S → ExposedBytes) (faults : S → ℕ) (n : ℕ) (start sources : List S) (k : ℕ) (comms : List (Rank Counts)) (links : Plain) → length sources ≡ n → n ≤ k → ReadSoFar left faults n start sources k comms links None → AllRead left faults (map left start) sources
-all_read left faults n start sources k comms links all end so r content source is at =
+pub all_read : {S : Type 0} (wrong : List ℕ → Option LineWhy) (left : S → ExposedBytes) (faults : S → ℕ) (n : ℕ) (start sources : List S) (k : ℕ) (comms : List (Rank Counts)) (links : Plain) → length sources ≡ n → n ≤ k → ReadSoFar wrong left faults n start sources k comms links None → AllRead wrong left faults (map left start) sources
+all_read wrong left faults n start sources k comms links all end so r content source is at =
     let within : r < length sources = slice_get_within sources r source at in
     let lt : r < k = omega (arith, within, all, end) in
-    subst (IsRead left faults content source) (so.lowest_is r lt) (so.read r content source lt is at)
+    subst (IsRead wrong left faults content source) (so.lowest_is r lt) (so.read r content source lt is at)
 
 -- the bytes that a source of the list exposes
 exposed_at : (lefts : List ExposedBytes) (bytes : List (List ℕ)) (r : ℕ) → AreExposed lefts bytes → r < length bytes → (b : List ℕ) × (slice_get bytes r ≡ Some b) × (slice_get lefts r ≡ Some (Some b))
@@ -120,9 +121,9 @@ exposed_at lefts bytes r exposed lt = elim (slice_get_cases bytes r).1 [
 ]
 
 -- the lines of all files are on their way
-pub all_sent : {S : Type 0} (left : S → ExposedBytes) (faults : S → ℕ) (n : ℕ) (start sources : List S) (k : ℕ) (comms : List (Rank Counts)) (links : Plain) → length start ≡ n → n ≤ k → k ≤ n → ReadSoFar left faults n start sources k comms links None
+pub all_sent : {S : Type 0} (wrong : List ℕ → Option LineWhy) (left : S → ExposedBytes) (faults : S → ℕ) (n : ℕ) (start sources : List S) (k : ℕ) (comms : List (Rank Counts)) (links : Plain) → length start ≡ n → n ≤ k → k ≤ n → ReadSoFar wrong left faults n start sources k comms links None
     → (bytes : List (List ℕ)) → AreExposed (map left start) bytes → Carried (λ rank. get_or (lines_of_each bytes) rank []) n comms links
-all_sent left faults n start sources k comms links all end within so bytes exposed =
+all_sent wrong left faults n start sources k comms links all end within so bytes exposed =
     let files = lines_of_each bytes in
     let many : length bytes ≡ n = sym (length-map bytes Some) ∙ sym (ap length exposed) ∙ length-map start left ∙ all in
     same_own so.own (λ rank. get_or files rank []) n comms links
@@ -136,9 +137,9 @@ all_sent left faults n start sources k comms links all end within so bytes expos
     so.carried
 
 -- the lowest fault is reported
-pub lowest_reported : {S : Type 0} (left : S → ExposedBytes) (faults : S → ℕ) (n : ℕ) (start sources : List S) (k : ℕ) (comms : List (Rank Counts)) (links : Plain) (found : ℕ × InputFault) → length sources ≡ n → n ≤ k → k ≤ n → ReadSoFar left faults n start sources k comms links (Some found)
-    → IsLowestFault left faults (map left start) sources found.0 found.1
-lowest_reported left faults n start sources k comms links found all end within so = record {
+pub lowest_reported : {S : Type 0} (wrong : List ℕ → Option LineWhy) (left : S → ExposedBytes) (faults : S → ℕ) (n : ℕ) (start sources : List S) (k : ℕ) (comms : List (Rank Counts)) (links : Plain) (found : ℕ × InputFault) → length sources ≡ n → n ≤ k → k ≤ n → ReadSoFar wrong left faults n start sources k comms links (Some found)
+    → IsLowestFault wrong left faults (map left start) sources found.0 found.1
+lowest_reported wrong left faults n start sources k comms links found all end within so = record {
   fault = so.fault;
   read = λ r content source is at. so.read r content source (let w : r < length sources = slice_get_within sources r source at in omega (arith, w, all, end)) is at;
   within = omega (arith, so.lowest_is.0, all, within);
@@ -147,9 +148,9 @@ lowest_reported left faults n start sources k comms links found all end within s
 }
 
 -- a rank's count is full, and the files below were read
-pub full_at : {S : Type 0} (left : S → ExposedBytes) (faults : S → ℕ) (n : ℕ) (start sources : List S) (k : ℕ) (comms : List (Rank Counts)) (links : Plain) (lowest : Option (ℕ × InputFault)) (item now : S) (limit : ℕ) → ReadSoFar left faults n start sources k comms links lowest
-    → slice_get start k ≡ Some item → k < length sources → IsFull (left item) (faults now) limit → IsFullAtRank left faults (map left start) (set sources k now) k limit
-full_at left faults n start sources k comms links lowest item now limit so at lt full = record {
+pub full_at : {S : Type 0} (wrong : List ℕ → Option LineWhy) (left : S → ExposedBytes) (faults : S → ℕ) (n : ℕ) (start sources : List S) (k : ℕ) (comms : List (Rank Counts)) (links : Plain) (lowest : Option (ℕ × InputFault)) (item now : S) (limit : ℕ) → ReadSoFar wrong left faults n start sources k comms links lowest
+    → slice_get start k ≡ Some item → k < length sources → IsFull wrong (left item) (faults now) limit → IsFullAtRank wrong left faults (map left start) (set sources k now) k limit
+full_at wrong left faults n start sources k comms links lowest item now limit so at lt full = record {
   content = left item;
   source = now;
   content_is = slice_get-map left start k ∙ ap (option_map left) at;

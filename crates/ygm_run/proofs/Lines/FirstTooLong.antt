@@ -26,11 +26,11 @@ pub short_of : (raws : List (List ℕ)) → AreShort raws → AllByRecursion (λ
 short_of raws short = recursion_from_All (λ raw. length raw ≤ max_line) raws short
 
 -- a line that is too long, at the front
-at_long : (raw : List ℕ) (raws : List (List ℕ)) → max_line < length raw → first_too_long (raw ∷ raws) ≡ Some 1
+pub at_long : (raw : List ℕ) (raws : List (List ℕ)) → max_line < length raw → first_too_long (raw ∷ raws) ≡ Some 1
 at_long raw raws long = ap (λ b. cond b (Some 1) (option_map (λ number. number + 1) (first_too_long raws))) (lt-ltb max_line (length raw) long)
 
 -- after a short line, each number is one more
-behind_short : (raw : List ℕ) (raws : List (List ℕ)) → length raw ≤ max_line → first_too_long (raw ∷ raws) ≡ option_map (λ number. number + 1) (first_too_long raws)
+pub behind_short : (raw : List ℕ) (raws : List (List ℕ)) → length raw ≤ max_line → first_too_long (raw ∷ raws) ≡ option_map (λ number. number + 1) (first_too_long raws)
 behind_short raw raws short = ap (λ b. cond b (Some 1) (option_map (λ number. number + 1) (first_too_long raws))) (le-ltb max_line (length raw) short)
 
 -- a short line put before

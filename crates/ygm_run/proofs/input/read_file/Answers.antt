@@ -1,12 +1,13 @@
 use Rattle.std.proofs.Common.{◌≡◌, None, ◌∙◌, [], false, refl, ap, sym, subst, arith}
 use Rattle.std.proofs.lemmas.Result.{err_from_is_err_and}
 use Rattle.std.proofs.lemmas.Option.{IfSome_then}
+use Rattle.ygm_run.specs.BadLines.{tally_wrong}
 use Rattle.ygm_run.specs.Fed.{EndedWith, Fed}
 use Rattle.ygm_run.specs.Inputs.{IsFull}
 use Rattle.ygm_run.specs.Reading.{Reading}
 use Rattle.ygm_run.specs.Turns.{to_come}
 use Rattle.ygm_run.proofs.Fed.Steps.{fed_nothing, fed_more}
-use Rattle.ygm_run.proofs.Inputs.IsRead.{not_ended, was_read}
+use Rattle.ygm_run.proofs.Inputs.IsRead.{not_ended, stopped_at_piece, was_read}
 use Rattle.ygm_run.proofs.Fed.LinesTaken.{from_start, all_sent_of}
 use Rattle.ygm_run.proofs.Inputs.IsRest.{rest_none, rest_more}
 use Rattle.ygm_run.proofs.Inputs.IsFull.{full_so, many_good}
@@ -24,7 +25,6 @@ loop-fault-init g c =
       bound = omega (arith, ap (λ (r : Reading). r.given) fresh);
       going_on = λ _. c.requires.fresh;
       ended = not_ended None c.in_ok-reader.reader left 0 (g.S.Source.faults c.args.source.now) (ap (λ (r : Reading). r.done) fresh);
-      behind = λ e. absurd cc;
       rest = rest_none left;
     }
 
@@ -34,7 +34,7 @@ returns-in_err-fault-clause-full g c =
     let now = c.in_err-fault.ensures in
     let p = err_from_is_err_and c.from_residual-in_err-fault.result c.from_residual-in_err-fault.ensures.1 in
     rw (p.1, p.2)
-    (full_so _ (IsFull (g.S.Source.left c.args.source.now) (g.S.Source.faults c.take_turn.new.source)) _
+    (full_so _ (IsFull tally_wrong (g.S.Source.left c.args.source.now) (g.S.Source.faults c.take_turn.new.source)) _
     (λ limit at. record {
       limit_is = at.limit_is;
       lines = IfSome_then (g.S.Source.left c.args.source.now) (many_good before.fed.raws (g.S.Source.left c.args.source.now) (to_come c.loop-fault.reader.held (g.S.Source.left c.loop-fault.source)) before.fed.short (from_start _ _ _ before.fed.taken) at.line) (λ bytes more. omega (arith, more, at.many, before.sent, before.fed.given));
@@ -59,7 +59,6 @@ loop-fault-preserved g c =
       bound = omega (arith, now.bound (omega (arith, before.sent, before.bound)), now.sent, before.sent);
       going_on = λ e. now.going_on e ∙ before.going_on unfinished;
       ended = λ done. subst (λ k. EndedWith c.in_ok-fault.fault c.take_turn.new.reader (g.S.Source.left c.take_turn.new.source) k (g.S.Source.faults c.take_turn.new.source)) (before.going_on unfinished) (now.ended done);
-      behind = λ failed. (c.loop-fault.source, before.going_on unfinished, now.failed_read_took_nothing failed);
       rest = rest_more (g.S.Source.left c.args.source.now) (g.S.Source.left c.loop-fault.source) (g.S.Source.left c.take_turn.new.source) before.rest c.take_turn.ensures.rest;
     }
 
@@ -76,4 +75,9 @@ pub returns-clause-read : goal.returns-clause-read
 returns-clause-read g c =
     let fed = c.loop-fault.invariant.fed in
     was_read g.S.Source.left g.S.Source.faults fed.raws c.loop-fault.reader (g.S.Source.left c.args.source.now) c.loop-fault.source _ fed.short (from_start _ _ _ fed.taken) (omega (arith, fed.given)) c.loop-fault.invariant.bound
-    (c.loop-fault.invariant.ended (sym c.done.ensures ∙ c.loop-fault-test.false)) c.loop-fault.invariant.behind
+    (c.loop-fault.invariant.ended (sym c.done.ensures ∙ c.loop-fault-test.false))
+
+pub returns-clause-stops : goal.returns-clause-stops
+returns-clause-stops g c =
+    let fed = c.loop-fault.invariant.fed in
+    stopped_at_piece fed.raws c.loop-fault.reader (g.S.Source.left c.args.source.now) (g.S.Source.left c.loop-fault.source) _ c.loop-fault.fault fed.short (from_start _ _ _ fed.taken) (c.loop-fault.invariant.ended (sym c.done.ensures ∙ c.loop-fault-test.false))

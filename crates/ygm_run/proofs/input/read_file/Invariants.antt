@@ -1,7 +1,7 @@
 use Rattle.std.proofs.Common.{◌≡◌, ◌≤◌, ◌+◌, [], true, false, cond, get_or}
 use Rattle.ygm_run.specs.Carried.{AreReady, sent_counts}
 use Rattle.ygm_run.specs.Fed.{EndedWith, Fed, turns_left}
-use Rattle.ygm_run.specs.Inputs.{IsRest, NothingBehind}
+use Rattle.ygm_run.specs.Inputs.{IsRest}
 use Rattle.world_core.specs.Limits.{most_letters}
 use Rattle.ygm_run.proofs.input.read_file.Given as goal
 
@@ -15,7 +15,6 @@ invariant-loop-fault g l = record {
   bound : l.reader.given ≤ most_letters;
   going_on : l.reader.done ≡ false → g.S.Source.faults l.source ≡ 0;
   ended : l.reader.done ≡ true → EndedWith l.fault l.reader (g.S.Source.left l.source) 0 (g.S.Source.faults l.source);
-  behind : NothingBehind g.S.Source.left g.S.Source.faults l.source l.fault;
   rest : IsRest (g.S.Source.left l.fn.source) (g.S.Source.left l.source);
 }
 

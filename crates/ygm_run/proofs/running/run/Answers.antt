@@ -1,14 +1,59 @@
-use Rattle.ygm_run.proofs.Ending.RunEnds.{noted_under, run_complete, run_nothing_left, run_under}
+use Rattle.std.proofs.Common.{◌≡◌, ◌∙◌, ◌∷◌, [], ℕ, List, false, Some, ap, map, refl, slice_get, subst, sym, inl}
+use Rattle.ygm_io.specs.Content.{NothingLeft}
+use Rattle.ygm_run.specs.declared.status.Status.TheVariants.{BadLine, Done, NoMemory}
+use Rattle.ygm_run.specs.declared.status.Status.{Status}
+use Rattle.ygm_run.specs.BadLines.{tally_wrong}
+use Rattle.ygm_run.specs.Ending.{Ends, FollowsVerdict, IsNoted, counts, inputs, may_write, opens, words, writes}
+use Rattle.ygm_run.specs.Job.{AreExposed}
+use Rattle.ygm_run.specs.Notes.{note_text}
+use Rattle.ygm_run.specs.Verdict.{tally_verdict}
+use Rattle.ygm_run.specs.Words.{named, order_of, texts_of}
+use Rattle.ygm_run.proofs.Ending.Follows.{follows, follows_any}
+use Rattle.ygm_run.proofs.Ending.Opened.{nothing_left_of}
+use Rattle.ygm_run.proofs.Ending.Reported.{told}
+use Rattle.ygm_run.proofs.Ending.Stages.{accepted, read_if_written}
 use Rattle.ygm_run.proofs.running.run.Goals as goal
 
-pub returns-in-Ok-clause-nothing_left : goal.returns-in-Ok-clause-nothing_left
-returns-in-Ok-clause-nothing_left g c = run_nothing_left _ _ _ _ _ _ _ c.run_tally.result.status c.run_tally.ensures.ends
-
 pub returns-in-Ok-clause-ends : goal.returns-in-Ok-clause-ends
-returns-in-Ok-clause-ends g c = run_under g.F.Src.Source.left g.F.Src.Source.faults _ _ (g.F.Files.content c.args.files.now) _ _ _ c.run_tally.result.status c.in-Ok.ensures.exact c.run_tally.ensures.ends
+returns-in-Ok-clause-ends g c =
+    let left = g.F.Src.Source.left in
+    let faults = g.F.Src.Source.faults in
+    let content = g.F.Files.content c.args.files.now in
+    let order = order_of (texts_of c.args.words.now) in
+    let contents = map content (named order) in
+    let sources = c.run_tally-ended.result.sources.items in
+    told
+    (λ status. Ends (words order sources ∷ opens left faults contents sources (g.F.Files.faults c.args.files.now) (g.F.Files.faults c.run_tally-ended.new.files) ∷ counts tally_wrong left faults contents sources ∷ inputs tally_wrong left faults contents sources
+    ∷ writes (g.O.Sink.faults c.args.out.now) (g.O.Sink.faults c.run_tally-ended.new.out) ∷ []) status)
+    c.run_tally-ended.result.status c.report.result c.report.ensures.same
+    (accepted tally_wrong left faults order (texts_of c.in-Ok.order.names.now) content sources _ _ _ _ c.run_tally-ended.result.status c.in-Ok.ensures.exact c.run_tally-ended.ensures.ends)
+    (λ unwritten. inl refl)
 
-pub returns-in-Ok-clause-complete : goal.returns-in-Ok-clause-complete
-returns-in-Ok-clause-complete g c = run_complete g.F.Src.Source.left g.F.Src.Source.faults _ (g.F.Files.content c.args.files.now) _ _ _ c.run_tally.result.status (returns-in-Ok-clause-ends g c)
+pub returns-in-Ok-clause-text : goal.returns-in-Ok-clause-text
+returns-in-Ok-clause-text g c = λ bytes exposed.
+    let names = texts_of c.in-Ok.order.names.now in
+    let content = g.F.Files.content c.args.files.now in
+    let before = g.O.Sink.holds c.args.out.now in
+    let now = g.O.Sink.holds c.run_tally-ended.new.out in
+    let ended = c.run_tally-ended.result.status in
+    let here : AreExposed (map content names) bytes = sym (ap (λ order. map content (named order)) c.in-Ok.ensures.exact) ∙ exposed in
+    told (λ status. FollowsVerdict (tally_verdict bytes) status before now) ended c.report.result c.report.ensures.same
+    (follows g.F.Src.Source.left g.F.Src.Source.faults (map content names) c.run_tally-ended.result.sources.items _ _ _ _ ended before now c.run_tally-ended.ensures.ends bytes here (c.run_tally-ended.ensures.text bytes here))
+    (λ unwritten. follows_any (tally_verdict bytes) NoMemory before now refl (λ rank line why is. cc))
+
+pub returns-in-Ok-clause-nothing_left : goal.returns-in-Ok-clause-nothing_left
+returns-in-Ok-clause-nothing_left g c = λ done.
+    let left = g.F.Src.Source.left in
+    let faults = g.F.Src.Source.faults in
+    let contents = map (g.F.Files.content c.args.files.now) (texts_of c.in-Ok.order.names.now) in
+    let sources = c.run_tally-ended.result.sources.items in
+    let ended = c.run_tally-ended.result.status in
+    told (λ status. status ≡ Done → (rank : ℕ) (source : _) → slice_get sources rank ≡ Some source → NothingLeft (left source)) ended c.report.result c.report.ensures.same
+    (λ is.
+    let read = read_if_written tally_wrong left faults contents sources _ _ _ _ ended c.run_tally-ended.ensures.ends (ap may_write is) in
+    nothing_left_of left tally_wrong faults contents sources read.0 read.1)
+    (λ unwritten is. absurd (let e : NoMemory ≡ Done = is in cc)) done
 
 pub returns-in-Ok-clause-noted : goal.returns-in-Ok-clause-noted
-returns-in-Ok-clause-noted g c = noted_under _ _ c.run_tally.result.status _ _ _ _ c.in-Ok.ensures.exact c.run_tally.ensures.noted
+returns-in-Ok-clause-noted g c =
+    subst (λ order. IsNoted g.N.Sink.holds g.N.Sink.faults c.args.notes.now c.report.new.notes (note_text c.report.result (named order))) (sym c.in-Ok.ensures.exact) c.report.ensures.noted
