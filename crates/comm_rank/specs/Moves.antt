@@ -13,7 +13,7 @@ use Rattle.comm_rank.specs.Agrees.{MaySend, PutsData}
 use Rattle.comm_rank.specs.declared.fault.CommFault.{CommFault}
 use Rattle.comm_rank.specs.declared.fault.CommFault.TheVariants.{NoMemory}
 use Rattle.comm_rank.specs.Held.{NoneClosed, held_for}
-use Rattle.comm_rank.specs.Rank.{Rank, ran_at, sent_to}
+use Rattle.comm_rank.specs.Rank.{Rank, held_letters, ran_at, sent_to}
 use Rattle.comm_rank.specs.Turns.{FirstFull, MetFull, NoneOrFull, PutsKeep}
 
 -- A rank may put what it holds: it is a rank of the post's world, where letters go straight to their destination; the
@@ -108,7 +108,7 @@ pub record HasPutAll {C : Type 0} (old new : Rank C) (before after : PostState) 
   pub count : put ≡ min (length placed) (2 ^ 64 - 1)
   pub none_or_full : (to : ℕ) → to < old.layout.ranks → NoneOrFull old.here to new.held before after
   pub first_full : FirstFull old.layout.ranks new.held before after full
-  pub none_held : full ≡ None → (to : ℕ) → to < old.layout.ranks → NoneClosed new.held to
+  pub none_held : full ≡ None → held_letters new ≡ []
 
 pub record PutAllFailed {C : Type 0} (old new : Rank C) (before after : PostState) (fault : CommFault) : Type 0 where
   pub placed : List Entry

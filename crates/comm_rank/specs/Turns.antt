@@ -16,7 +16,7 @@ use Rattle.comm_rank.specs.Agrees.{Belongs, MayTurn, PutsData}
 use Rattle.comm_rank.specs.Fault.{GivesIfFull, IfCountFull, IsFullAt, NeverStopped}
 use Rattle.comm_rank.specs.Fold.{Applies, given_by}
 use Rattle.comm_rank.specs.Held.{NoneClosed}
-use Rattle.comm_rank.specs.Rank.{Rank, folded, halted, handed, local_of, ran_at, sent_to}
+use Rattle.comm_rank.specs.Rank.{Rank, folded, halted, handed, held_letters, local_of, ran_at, sent_to}
 
 -- ---- what its log gains
 
@@ -143,7 +143,7 @@ FirstFull ranks held old new (Some to) = IsFirstFull ranks to held old new
 -- ---- the outcomes of a turn: for the rank before and after it, and for what the post shows
 
 -- It ended. From each link it took one batch or found none, and for each rank it put what is held, until no closed batch
--- was left or the link was found full; where no link was, no closed batch is left. The rank still belongs to the post, and
+-- was left or the link was found full; where no link was, no letter is held. The rank still belongs to the post, and
 -- may take the next turn. It met no stop, and who has raised the stop is unchanged.
 pub record HasEnded {C : Type 0} (apply : Applies C) (start : C → C) (old new : Rank C) (before after : PostState)
     (turn : Turn) : Type 0 where
@@ -153,7 +153,7 @@ pub record HasEnded {C : Type 0} (apply : Applies C) (start : C → C) (old new 
   pub takes_from_each : (from : ℕ) → from < old.layout.ranks → LookedAt old.here from before after
   pub puts_to_each : (to : ℕ) → to < old.layout.ranks → NoneOrFull old.here to new.held before after
   pub full : FirstFull old.layout.ranks new.held before after turn.full
-  pub none_held : turn.full ≡ None → (to : ℕ) → to < old.layout.ranks → NoneClosed new.held to
+  pub none_held : turn.full ≡ None → held_letters new ≡ []
   pub stops : SameStops before after
   pub halts : after.halts ≡ before.halts
 

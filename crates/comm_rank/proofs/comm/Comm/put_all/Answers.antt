@@ -28,7 +28,7 @@ returns-clause-put g c =
     let held = c.put_each.new.held.lists in
     let belongs : Belongs g.H.Handler.apply g.H.Handler.start me old = subst (λ m. Belongs g.H.Handler.apply g.H.Handler.start m old) (sym is) c.requires.belongs in
     IfOk-weaker c.put_each.result _ _
-    (λ what p. subst (λ (m : Rank g.row.H.Denot). HasPutAll m (record me { held = held }) old new what.0 what.1) is (has_put_all g.H.Handler.apply g.H.Handler.start me old belongs c.self.invariant.1 (subst (λ m. MayTurn m (old.log m.here)) (sym is) c.requires.may_turn) held new what.0 what.1 _ c.ranks.ensures.value p)) c.put_each.ensures.put
+    (λ what p. subst (λ (m : Rank g.row.H.Denot). HasPutAll m (record me { held = held }) old new what.0 what.1) is (has_put_all g.H.Handler.apply g.H.Handler.start me old belongs c.self.invariant.1 (subst (λ m. MayTurn m (old.log m.here)) (sym is) c.requires.may_turn) held new what.0 what.1 _ c.ranks.ensures.value c.self.invariant.5 p)) c.put_each.ensures.put
 
 pub returns-clause-failed : goal.returns-clause-failed
 returns-clause-failed g c =
