@@ -12,7 +12,8 @@ IsOption word = (byte : ℕ) × (bytes : List ℕ) × (word ≡ codes "--" ++ by
 -- the first word is `--`, and all others do.
 abbrev pub NameFiles : List (List ℕ) → List (List ℕ) → Type 0
 NameFiles words files = (words ≡ codes "--" ∷ files)
-    ⊎ ((words ≡ files) × ((first : List ℕ) (later : List (List ℕ)) → files ≡ first ∷ later → (first ≢ codes "--") × (IsOption first → ⊥)))
+    ⊎ ((words ≡ files) × ((first : List ℕ) (later : List (List ℕ)) → files ≡ first ∷ later
+    → (first ≢ codes "--") × (IsOption first → ⊥)))
 
 -- The words are accepted, with these files: the first is the job tally, and the others name 1 to `max_ranks` files.
 pub record AreAccepted (words files : List (List ℕ)) : Type 0 where
@@ -28,7 +29,8 @@ Holds NoJob words = words ≡ []
 Holds UnknownJob words = (job : List ℕ) × (behind : List (List ℕ)) × (words ≡ job ∷ behind) × (job ≢ codes "tally")
 Holds UnknownOption words = (job first : List ℕ) × (behind : List (List ℕ)) × (words ≡ job ∷ first ∷ behind) × IsOption first
 Holds NoFile words = (job : List ℕ) × (behind : List (List ℕ)) × (words ≡ job ∷ behind) × NameFiles behind []
-Holds TooManyRanks words = (job : List ℕ) × (behind files : List (List ℕ)) × (words ≡ job ∷ behind) × NameFiles behind files × (max_ranks < length files)
+Holds TooManyRanks words = (job : List ℕ) × (behind files : List (List ℕ)) × (words ≡ job ∷ behind)
+    × NameFiles behind files × (max_ranks < length files)
 
 -- the refusals, in their order
 abbrev pub refusals : List UsageKind
@@ -37,4 +39,5 @@ refusals = NoJob ∷ UnknownJob ∷ UnknownOption ∷ NoFile ∷ TooManyRanks �
 -- the first of the refusals that holds of the words is this one
 abbrev pub IsFirst : List UsageKind → List (List ℕ) → UsageKind → Type 0
 IsFirst [] words kind = ⊥
-IsFirst (first ∷ later) words kind = (Holds first words × (kind ≡ first)) ⊎ ((Holds first words → ⊥) × IsFirst later words kind)
+IsFirst (first ∷ later) words kind = (Holds first words × (kind ≡ first))
+    ⊎ ((Holds first words → ⊥) × IsFirst later words kind)

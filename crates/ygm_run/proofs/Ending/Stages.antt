@@ -1,15 +1,15 @@
 -- Ends of runs, stage by stage.
-use Rattle.std.proofs.Common.{◌≡◌, ◌⊎◌, ℕ, ◌<◌, Bool, true, false, List, [], ◌∷◌, Some, None, Option, Result, Ok, Err, length, map, slice_get, refl, ap, sym, ◌∙◌, subst, inl, inr}
-use Rattle.ygm_io.specs.Content.{ExposedBytes, NothingLeft}
+use Rattle.std.proofs.Common.{◌≡◌, ◌⊎◌, ℕ, ◌<◌, true, false, List, [], ◌∷◌, Option, Result, Ok, length, map, refl, ap, sym, ◌∙◌, subst, inl, inr}
+use Rattle.ygm_io.specs.Content.{ExposedBytes}
 use Rattle.ygm_run.specs.declared.status.InputFault.{InputFault}
 use Rattle.ygm_run.specs.declared.status.InputFault.TheVariants.{Read, Bad}
 use Rattle.ygm_run.specs.declared.status.LineWhy.{LineWhy}
 use Rattle.ygm_run.specs.declared.status.Status.{Status}
-use Rattle.ygm_run.specs.declared.status.Status.TheVariants.{Done, Usage, OpenFault, ReadFault, BadLine, WriteFault, NoMemory, CountFull}
+use Rattle.ygm_run.specs.declared.status.Status.TheVariants.{Done, OpenFault, ReadFault, BadLine, WriteFault, NoMemory, CountFull}
 use Rattle.ygm_run.specs.declared.tally.JobFault.{JobFault}
 use Rattle.ygm_run.specs.declared.tally.JobFault.TheVariants.{Input as JobInput, CountFull as JobFull, NoMemory as JobNoMemory}
 use Rattle.ygm_run.specs.declared.words.UsageKind.{UsageKind}
-use Rattle.ygm_run.specs.Ending.{Ends, EndsIn, IsWritten, Stage, counts, inputs, may_write, of_input, opens, words, writes}
+use Rattle.ygm_run.specs.Ending.{Ends, IsWritten, Stage, counts, inputs, may_write, of_input, opens, words, writes}
 use Rattle.ygm_run.specs.Inputs.{AllRead, IsLowestFault}
 use Rattle.ygm_run.specs.JobEnds.{JobStops, status_of}
 use Rattle.ygm_run.specs.Words.{named}
@@ -49,26 +49,30 @@ of_input_opened : (rank file : ℕ) (found : InputFault) → of_input rank found
 of_input_opened rank file Read e = cc
 of_input_opened rank file (Bad line why) e = cc
 
-of_input_line : (rank other line : ℕ) (why : LineWhy) (found : InputFault) → of_input other found ≡ BadLine rank line why → (other ≡ rank) × (found ≡ Bad line why)
+of_input_line : (rank other line : ℕ) (why : LineWhy) (found : InputFault) → of_input other found ≡ BadLine rank line why
+    → (other ≡ rank) × (found ≡ Bad line why)
 of_input_line rank other line why Read e = absurd (let f : ReadFault other ≡ BadLine rank line why = e in cc)
 of_input_line rank other line why (Bad at reason) e = let f : BadLine other at reason ≡ BadLine rank line why = e in (cc, cc)
 
 module _ {S : Type 0} (wrong : List ℕ → Option LineWhy) (left : S → ExposedBytes) (faults : S → ℕ) where
   -- a job that has read all files passes its two stages
-  pub job_read : (contents : List ExposedBytes) (sources : List S) (later : List Stage) (status : Status) → AllRead wrong left faults contents sources → Ends later status
+  pub job_read : (contents : List ExposedBytes) (sources : List S) (later : List Stage) (status : Status)
+      → AllRead wrong left faults contents sources → Ends later status
       → Ends (counts wrong left faults contents sources ∷ inputs wrong left faults contents sources ∷ later) status
   job_read contents sources later status read ends =
       passed (counts wrong left faults contents sources) (inputs wrong left faults contents sources ∷ later) status tt (passed (inputs wrong left faults contents sources) later status read ends)
 
   -- a job that stops ends at one of them
-  pub job_stopped : (contents : List ExposedBytes) (sources : List S) (later : List Stage) (fault : JobFault) (status : Status) → status ≡ status_of fault → JobStops wrong left faults contents sources fault
+  pub job_stopped : (contents : List ExposedBytes) (sources : List S) (later : List Stage) (fault : JobFault) (status : Status)
+      → status ≡ status_of fault → JobStops wrong left faults contents sources fault
       → Ends (counts wrong left faults contents sources ∷ inputs wrong left faults contents sources ∷ later) status
   job_stopped contents sources later (JobInput rank found) status same stops = inr (inr (tt, inl (rank, found, same, stops)))
   job_stopped contents sources later (JobFull rank at) status same stops = inr (inl (rank, at, same, stops))
   job_stopped contents sources later JobNoMemory status same stops = inl same
 
   -- a job ends so over the same files and sources
-  pub job_over : (contents others : List ExposedBytes) (sources after : List S) (later : List Stage) (status : Status) → others ≡ contents → after ≡ sources
+  pub job_over : (contents others : List ExposedBytes) (sources after : List S) (later : List Stage) (status : Status) → others ≡ contents
+      → after ≡ sources
       → Ends (counts wrong left faults others after ∷ inputs wrong left faults others after ∷ later) status
       → Ends (counts wrong left faults contents sources ∷ inputs wrong left faults contents sources ∷ later) status
   job_over contents others sources after later status same at ends =
@@ -76,7 +80,8 @@ module _ {S : Type 0} (wrong : List ℕ → Option LineWhy) (left : S → Expose
       (subst (λ xs. Ends (counts wrong left faults others xs ∷ inputs wrong left faults others xs ∷ later) status) at ends)
 
   -- the words were accepted, and name these files
-  pub accepted : (order : Result (List (List ℕ)) UsageKind) (names : List (List ℕ)) (content : List ℕ → ExposedBytes) (sources : List S) (opening opening_now writing writing_now : ℕ) (status : Status) → order ≡ Ok names
+  pub accepted : (order : Result (List (List ℕ)) UsageKind) (names : List (List ℕ)) (content : List ℕ
+      → ExposedBytes) (sources : List S) (opening opening_now writing writing_now : ℕ) (status : Status) → order ≡ Ok names
       → Ends (opens left faults (map content names) sources opening opening_now ∷ counts wrong left faults (map content names) sources ∷ inputs wrong left faults (map content names) sources ∷ writes writing writing_now ∷ []) status
       → Ends (words order sources ∷ opens left faults (map content (named order)) sources opening opening_now ∷ counts wrong left faults (map content (named order)) sources
       ∷ inputs wrong left faults (map content (named order)) sources ∷ writes writing writing_now ∷ []) status
@@ -110,7 +115,8 @@ module _ {S : Type 0} (wrong : List ℕ → Option LineWhy) (left : S → Expose
     read_if_written (inr (inr (opened, inr (any, inr (read, last))))) written = (opened.0, read)
 
     -- a bad line that is reported is the fault of the lowest rank with one
-    pub lowest_if_bad : FilesEnd → (rank line : ℕ) (why : LineWhy) → status ≡ BadLine rank line why → (length sources ≡ length contents) × IsLowestFault wrong left faults contents sources rank (Bad line why)
+    pub lowest_if_bad : FilesEnd → (rank line : ℕ) (why : LineWhy) → status ≡ BadLine rank line why
+        → (length sources ≡ length contents) × IsLowestFault wrong left faults contents sources rank (Bad line why)
     lowest_if_bad (inl none) rank line why is = absurd (let e : NoMemory ≡ BadLine rank line why = sym none ∙ is in cc)
     lowest_if_bad (inr (inl (file, same, first, rose))) rank line why is = absurd (let e : OpenFault file ≡ BadLine rank line why = sym same ∙ is in cc)
     lowest_if_bad (inr (inr (opened, inl (other, limit, same, full)))) rank line why is = absurd (let e : CountFull other limit ≡ BadLine rank line why = sym same ∙ is in cc)

@@ -1,7 +1,6 @@
-use Rattle.std.proofs.Common.{◌≡◌, ◌∙◌, ◌∷◌, [], ℕ, List, false, Some, ap, map, refl, slice_get, subst, sym, inl}
+use Rattle.std.proofs.Common.{◌≡◌, ◌∙◌, ◌∷◌, [], ℕ, Some, ap, map, refl, slice_get, subst, sym, inl}
 use Rattle.ygm_io.specs.Content.{NothingLeft}
-use Rattle.ygm_run.specs.declared.status.Status.TheVariants.{BadLine, Done, NoMemory}
-use Rattle.ygm_run.specs.declared.status.Status.{Status}
+use Rattle.ygm_run.specs.declared.status.Status.TheVariants.{Done, NoMemory}
 use Rattle.ygm_run.specs.BadLines.{tally_wrong}
 use Rattle.ygm_run.specs.Ending.{Ends, FollowsVerdict, IsNoted, counts, inputs, may_write, opens, words, writes}
 use Rattle.ygm_run.specs.Job.{AreExposed}
