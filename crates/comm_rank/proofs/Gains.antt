@@ -1,23 +1,22 @@
 -- What is held gains letters, one after another.
-use Rattle.std.proofs.Common.{◌≡◌, ℕ, ◌+◌, Bool, Some, List, [], ◌∷◌, ◌++◌, length, take, slice_get, sym, ap, ◌∙◌, subst, append-nil, append_assoc, arith, ◌&&◌, ◌==◌, length-append}
+use Rattle.std.proofs.Common.{◌≡◌, ℕ, ◌+◌, Some, List, [], ◌∷◌, ◌++◌, take, slice_get, sym, ap, ◌∙◌, subst, append-nil, append_assoc, arith}
 use Rattle.std.proofs.lemmas.List.Elements.{filter-append}
 use Rattle.msg_codec.specs.Count.{Count}
 use Rattle.msg_codec.specs.declared.letter.Letter.{Letter}
-use Rattle.world_core.specs.Pairs.{is_data, is_of_pair, of_pair, of_sender}
+use Rattle.world_core.specs.Pairs.{is_of_pair, of_pair}
+use Rattle.world_core.proofs.Pairs.Numbers.{sent_number-append, sent_number-nil}
 use Rattle.list_facts.proofs.Steps.{taken_more}
 use Rattle.comm_rank.specs.Held.{Gains}
 
 pub gains_none : (held : List Letter) → Gains held held []
-gains_none held = record { pairs = λ s d. sym (append-nil _); senders = λ s. omega arith }
+gains_none held = record { pairs = λ s d. sym (append-nil _); senders = λ s. omega (arith, sent_number-nil s) }
 
 pub gains_more : (a b c xs ys : List Letter) → Gains a b xs → Gains b c ys → Gains a c (xs ++ ys)
 gains_more a b c xs ys first later = record {
   pairs = λ s d.
       later.pairs s d ∙ ap (λ zs. zs ++ of_pair s d ys) (first.pairs s d) ∙ append_assoc (of_pair s d a) (of_pair s d xs) (of_pair s d ys)
       ∙ ap (λ zs. of_pair s d a ++ zs) (sym (filter-append (is_of_pair s d) xs ys));
-  senders = λ s.
-      let test : Letter → Bool = λ l. is_data l && (l.from == s) in
-      omega (arith, later.senders s, first.senders s, ap length (filter-append test xs ys), length-append (of_sender s xs) (of_sender s ys));
+  senders = λ s. omega (arith, later.senders s, first.senders s, sent_number-append s xs ys);
 }
 
 -- one letter more of a list

@@ -20,7 +20,9 @@ use Rattle.comm_rank.specs.Rank.{Rank, local_of, held_letters, sent_to, ran_at}
 -- destination it is among the own letters put there.
 abbrev pub IsServed : {C : Type 0} → Applies C → ℕ → ℕ → C → List Entry → Type 0
 IsServed apply here ranks contents log = (q to : ℕ) → q < counts log →
-    IsSublist (of_pair here to (handed_from apply here ranks contents (arrived here (before_count q log)))) (pair_put here to (before_count q log))
+    IsSublist
+    (of_pair here to (handed_from apply here ranks contents (arrived here (before_count q log))))
+    (pair_put here to (before_count q log))
 
 -- A rank agrees with a log: all that came has run, what it holds of other senders is what it has to forward, its counts
 -- are those of the letters that it sent and ran, its contents are the fold of what ran, all that its handler gave was
@@ -32,7 +34,9 @@ pub record Agrees {C : Type 0} (apply : Applies C) (start : C → C) (me : Rank 
   pub sent_count : me.sent_count ≡ own_count me.here log + sent_number me.here (held_letters me)
   pub run_count : me.run_count ≡ length (ran_at me log)
   pub contents : me.contents ≡ fold_from apply me.here me.layout.ranks (start me.contents) (ran_at me log)
-  pub given_is_sent : (to : ℕ) → IsSublist (of_pair me.here to (handed_from apply me.here me.layout.ranks (start me.contents) (ran_at me log))) (sent_to me log to)
+  pub given_is_sent : (to : ℕ) → IsSublist
+      (of_pair me.here to (handed_from apply me.here me.layout.ranks (start me.contents) (ran_at me log)))
+      (sent_to me log to)
   pub modest : IsModest (local_of me log)
   pub controls : IsSuffix me.controls (filter is_control (letters_taken log))
   pub served : IsServed apply me.here me.layout.ranks (start me.contents) log
@@ -48,9 +52,11 @@ pub record Belongs {C : Type 0} (apply : Applies C) (start : C → C) (me : Rank
 abbrev pub PutsData : List Entry → Type 0
 PutsData log = AllByRecursion (λ l. IsTrue (is_data l)) (letters_put log)
 
--- A rank may put what it holds of its own letters: its log is free, so that it isn't idle in a barrier, or it holds none.
+-- A rank may put the letters of its own that it holds: its log is free, which it is unless the rank is idle in a barrier;
+-- or it holds none.
 abbrev pub MaySend : Local → List (List Letter) → Type 0
 MaySend me held = (is_free me ≡ true) ⊎ (of_sender me.here (letters_of held) ≡ [])
 
+-- a rank may take a turn: it may put the letters of its own that it holds
 abbrev pub MayTurn : {C : Type 0} → Rank C → List Entry → Type 0
 MayTurn me log = MaySend (local_of me log) me.held

@@ -29,13 +29,14 @@ NeverStopped Stopped = ⊥
 NeverStopped (CountFull at) = ⊤
 NeverStopped NoMemory = ⊤
 
--- a full count is reported only by a rank that has sent as many letters as it may
+-- a full count is reported only by a rank that has sent as many letters as it may, and tells that number
 abbrev pub IsFullAt : ℕ → ℕ → CommFault → Type 0
 IsFullAt count limit fault = IfCountFull fault (λ at. (count ≡ limit) × (at ≡ limit))
 
 -- some letter makes the handler send others
 abbrev pub Gives : {C : Type 0} → Applies C → Type 0
-Gives {C} apply = (contents : C) × (here : ℕ) × (ranks : ℕ) × (letter : Letter) × (0 < length (apply contents here ranks letter).1)
+Gives {C} apply =
+    (contents : C) × (here : ℕ) × (ranks : ℕ) × (letter : Letter) × (0 < length (apply contents here ranks letter).1)
 
 -- while letters run, a full count is reported only where a handler sends others
 abbrev pub GivesIfFull : {C : Type 0} → Applies C → CommFault → Type 0

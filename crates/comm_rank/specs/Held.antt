@@ -1,7 +1,7 @@
 -- The letters that a rank holds, by the rank that they go to next.
-use Rattle.std.specs.Prelude.{◌≡◌, ℕ, ◌+◌, ◌++◌, List, [], length, slice_index_or}
+use Rattle.std.specs.Prelude.{◌≡◌, ℕ, ◌+◌, ◌++◌, List, [], slice_index_or}
 use Rattle.msg_codec.specs.declared.letter.Letter.{Letter}
-use Rattle.world_core.specs.Pairs.{of_pair, of_sender}
+use Rattle.world_core.specs.Pairs.{of_pair, sent_number}
 
 -- the letters that go to this rank next
 abbrev pub held_for : List (List Letter) → ℕ → List Letter
@@ -14,4 +14,4 @@ NoneClosed held next = held_for held next ≡ []
 -- These letters are held in addition: of each pair of ranks they come last, and each counts for its sender.
 pub record Gains (before after letters : List Letter) : Type 0 where
   pub pairs : (from to : ℕ) → of_pair from to after ≡ of_pair from to before ++ of_pair from to letters
-  pub senders : (from : ℕ) → length (of_sender from after) ≡ length (of_sender from before) + length (of_sender from letters)
+  pub senders : (from : ℕ) → sent_number from after ≡ sent_number from before + sent_number from letters

@@ -1,5 +1,5 @@
 -- What a rank does as it puts what it holds. Only private functions cite this.
-use Rattle.std.specs.Prelude.{◌≡◌, ◌≢◌, ℕ, ◌+◌, ◌-◌, ◌^◌, ◌<◌, ◌≤◌, Bool, true, false, IsTrue, Option, List, [], ◌++◌, length, min}
+use Rattle.std.specs.Prelude.{◌≡◌, ◌≢◌, ℕ, ◌+◌, ◌-◌, ◌^◌, ◌<◌, ◌≤◌, Bool, true, false, IsTrue, Option, None, List, [], ◌++◌, length, min}
 use Rattle.std.specs.List.{AllByRecursion}
 use Rattle.msg_codec.specs.declared.letter.Letter.{Letter}
 use Rattle.ygm_route.specs.declared.scheme.Scheme.TheVariants.{Direct}
@@ -7,14 +7,14 @@ use Rattle.world_core.specs.declared.entry.Entry.{Entry}
 use Rattle.world_core.specs.Limits.{most_letters}
 use Rattle.world_core.specs.Log.{IsPut, letters_of}
 use Rattle.world_core.specs.Pairs.{of_pair, own_count, sent, sent_number}
-use Rattle.world_core.specs.Post.{CountsNeverFall, FullsRise, SameFulls, SameMisses, SamePost, SameStops, PostState, local_at}
+use Rattle.world_core.specs.Post.{FullsRise, SameFulls, PostState, local_at}
 use Rattle.world_core.specs.Rules.{IsHonest}
 use Rattle.comm_rank.specs.Agrees.{MaySend, PutsData}
 use Rattle.comm_rank.specs.declared.fault.CommFault.{CommFault}
 use Rattle.comm_rank.specs.declared.fault.CommFault.TheVariants.{NoMemory}
 use Rattle.comm_rank.specs.Held.{NoneClosed, held_for}
-use Rattle.comm_rank.specs.Rank.{Rank, ran_at, sent_to}
-use Rattle.comm_rank.specs.Turns.{FirstFull, MetFull, NoneOrFull}
+use Rattle.comm_rank.specs.Rank.{Rank, held_letters, ran_at, sent_to}
+use Rattle.comm_rank.specs.Turns.{FirstFull, MetFull, NoneOrFull, PutsKeep}
 
 -- A rank may put what it holds: it is a rank of the post's world, where letters go straight to their destination; the
 -- letters that it holds are its own, with them it has sent no more than a rank may, and it may send them.
@@ -27,27 +27,23 @@ pub record MayPut (here : ℕ) (held : List (List Letter)) (post : PostState) : 
   pub few : own_count here (post.log here) + sent_number here (letters_of held) ≤ most_letters
   pub may_send : MaySend (local_at post here) held
 
--- what puts leave unchanged at the post
-pub record MoveKeeps (here : ℕ) (old new : PostState) : Type 0 where
-  pub same : SamePost here old new
-  pub stops : SameStops old new
-  pub misses : SameMisses old new
-  pub halts : new.halts ≡ old.halts
-  pub counts : CountsNeverFall old new
-
--- Letters moved from what a rank holds into its log, which gained honest puts of data letters alone. What was sent to each
--- rank is unchanged, and so is its count. A rank that may send what it holds still may.
+-- Letters moved from what a rank holds into its log, which gained honest puts of data letters alone. What was sent to
+-- each rank is unchanged, and so is its count. A rank that may send what it holds still may. Of a pair of ranks of which
+-- it held no letter it still holds none.
 pub record Moved (here : ℕ) (before after : List (List Letter)) (old new : PostState) (placed : List Entry) : Type 0 where
   pub log : new.log here ≡ old.log here ++ placed
   pub puts : AllByRecursion IsPut placed
   pub data_alone : PutsData placed
   pub honest : IsHonest (local_at old here) → IsHonest (local_at new here)
   pub may_send : MaySend (local_at old here) before → MaySend (local_at new here) after
-  pub sent_unchanged : (to : ℕ) → sent here to (new.log here) (letters_of after) ≡ sent here to (old.log here) (letters_of before)
-  pub count_unchanged : own_count here (new.log here) + sent_number here (letters_of after) ≡ own_count here (old.log here) + sent_number here (letters_of before)
+  pub sent_unchanged : (to : ℕ) →
+      sent here to (new.log here) (letters_of after) ≡ sent here to (old.log here) (letters_of before)
+  pub count_unchanged :
+      own_count here (new.log here) + sent_number here (letters_of after)
+      ≡ own_count here (old.log here) + sent_number here (letters_of before)
   pub none_more : (from to : ℕ) → of_pair from to (letters_of before) ≡ [] → of_pair from to (letters_of after) ≡ []
   pub all : length after ≡ length before
-  pub keeps : MoveKeeps here old new
+  pub keeps : PutsKeep here old new
 
 -- puts that lack of memory ended
 pub record PutsFailed (here : ℕ) (before after : List (List Letter)) (old new : PostState) (fault : CommFault) : Type 0 where
@@ -62,6 +58,7 @@ abbrev pub PutsOne : Bool → ℕ → ℕ → List (List Letter) → List (List 
 PutsOne true here to before after old new = (length (held_for before to) ≡ length (held_for after to) + 1) × SameFulls old new
 PutsOne false here to before after old new = MetFull here to after old new × FullsRise to old new
 
+-- how many batches that is
 abbrev pub put_count : Bool → ℕ
 put_count true = 1
 put_count false = 0
@@ -93,9 +90,10 @@ pub record HasPutEach (here ranks : ℕ) (before after : List (List Letter)) (ol
   pub count : put ≡ min (length placed) (2 ^ 64 - 1)
   pub none_or_full : (to : ℕ) → to < ranks → NoneOrFull here to after old new
   pub first_full : FirstFull ranks after old new full
+  pub none_held : full ≡ None → (to : ℕ) → to < ranks → NoneClosed after to
 
--- Puts of a rank: its log gained puts of data letters alone. What it has sent, what ran, and all of the rank but what it holds are
--- unchanged.
+-- Puts of a rank: its log gained puts of data letters alone. What it has sent, what ran, and all of the rank but what it
+-- holds are unchanged.
 pub record PutOut {C : Type 0} (old new : Rank C) (before after placed : List Entry) : Type 0 where
   pub log : after ≡ before ++ placed
   pub puts : AllByRecursion IsPut placed
@@ -110,6 +108,7 @@ pub record HasPutAll {C : Type 0} (old new : Rank C) (before after : PostState) 
   pub count : put ≡ min (length placed) (2 ^ 64 - 1)
   pub none_or_full : (to : ℕ) → to < old.layout.ranks → NoneOrFull old.here to new.held before after
   pub first_full : FirstFull old.layout.ranks new.held before after full
+  pub none_held : full ≡ None → held_letters new ≡ []
 
 pub record PutAllFailed {C : Type 0} (old new : Rank C) (before after : PostState) (fault : CommFault) : Type 0 where
   pub placed : List Entry

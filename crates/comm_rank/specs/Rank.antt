@@ -86,13 +86,26 @@ pub record HasSent {C : Type 0} (old new : Rank C) (l : Letter) : Type 0 where
   pub sent : (log : List Entry) (to : ℕ) → sent_to new log to ≡ sent_to old log to ++ of_pair old.here to (l ∷ [])
   pub rank : new ≡ record old { sent_count = old.sent_count + 1; held = new.held }
 
--- Letters ran at the rank: of the rank, only these fields changed.
+-- Letters ran at the rank: of it, only these fields changed.
 abbrev pub OnlyRan : {C : Type 0} → Rank C → Rank C → Type 0
-OnlyRan old new = new ≡ record old { contents = new.contents; sent_count = new.sent_count; run_count = new.run_count; held = new.held; waiting = new.waiting }
+OnlyRan old new = new ≡ record old {
+  contents = new.contents;
+  sent_count = new.sent_count;
+  run_count = new.run_count;
+  held = new.held;
+  waiting = new.waiting;
+}
 
--- It took batches, their letters ran or wait to be handed over, or letters were put into its links: only these did.
+-- It took batches, whose letters ran or wait, or it put letters into its links: of it, only these fields changed.
 abbrev pub Worked : {C : Type 0} → Rank C → Rank C → Type 0
-Worked old new = new ≡ record old { contents = new.contents; sent_count = new.sent_count; run_count = new.run_count; held = new.held; waiting = new.waiting; controls = new.controls }
+Worked old new = new ≡ record old {
+  contents = new.contents;
+  sent_count = new.sent_count;
+  run_count = new.run_count;
+  held = new.held;
+  waiting = new.waiting;
+  controls = new.controls;
+}
 
 -- the same rank of the same world
 pub record IsSameRank {C : Type 0} (old new : Rank C) : Type 0 where

@@ -125,7 +125,7 @@ pub record CutFrom {C : Type 0} (from : ℕ) (apply : Applies C) (old new : Rank
   pub alone : AllByRecursion (λ entry. other_end entry ≡ from) cut.taken
   pub one : length cut.taken ≤ 1
 
--- nothing was taken from a rank, and no miss was counted there; its link is unchanged
+-- nothing was taken from a rank, and no miss was counted there; its link is unchanged, and whether the post serves it
 pub record NotLookedAt (here from : ℕ) (old new : PostState) : Type 0 where
   pub taken : batches_taken from (new.log here) ≡ batches_taken from (old.log here)
   pub misses : new.misses from ≡ old.misses from
@@ -135,7 +135,8 @@ pub record NotLookedAt (here from : ℕ) (old new : PostState) : Type 0 where
 -- ---- the outcomes of takes, for the rank and for what the post shows
 
 -- from one rank
-pub record HasTakenFrom {C : Type 0} (from : ℕ) (apply : Applies C) (start : C → C) (old new : Rank C) (before after : PostState) (took : ℕ) : Type 0 where
+pub record HasTakenFrom {C : Type 0} (from : ℕ) (apply : Applies C) (start : C → C) (old new : Rank C)
+    (before after : PostState) (took : ℕ) : Type 0 where
   pub taken : TookFrom from apply old new (before.log old.here) (after.log old.here) took
   pub belongs : Belongs apply start new after
   pub may_turn : MayTurn new (after.log old.here)
@@ -149,7 +150,8 @@ pub record WasCutFrom {C : Type 0} (from : ℕ) (apply : Applies C) (old new : R
   pub cause : IsCause apply old new fault
 
 -- from each rank
-pub record HasTakenAll {C : Type 0} (apply : Applies C) (start : C → C) (old new : Rank C) (before after : PostState) (took : ℕ) : Type 0 where
+pub record HasTakenAll {C : Type 0} (apply : Applies C) (start : C → C) (old new : Rank C)
+    (before after : PostState) (took : ℕ) : Type 0 where
   pub taken : TookAll apply old new (before.log old.here) (after.log old.here) took
   pub belongs : Belongs apply start new after
   pub may_turn : MayTurn new (after.log old.here)

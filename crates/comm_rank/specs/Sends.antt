@@ -3,6 +3,7 @@ use Rattle.std.specs.Prelude.{ℕ, ◌<◌, List}
 use Rattle.world_core.specs.Limits.{data_tags}
 use Rattle.comm_rank.specs.declared.handler.Outbound.{Outbound}
 
+-- the number of ranks of its world, and the letters so far
 pub record Sends : Type 0 where
   pub ranks : ℕ
   pub letters : List Outbound

@@ -1,9 +1,9 @@
--- How held letters are stored: a list for each destination. Only private functions cite this.
+-- How held letters are stored: a list for each destination. Only private functions and types cite this.
 use Rattle.std.specs.Prelude.{◌≡◌, ◌≢◌, ℕ, ◌+◌, ◌<◌, ◌++◌, IsTrue, List, [], ◌∷◌, length, slice_set}
 use Rattle.std.specs.List.{AllByRecursion}
 use Rattle.msg_codec.specs.declared.letter.Letter.{Letter}
 use Rattle.world_core.specs.Log.{letters_of}
-use Rattle.world_core.specs.Pairs.{is_data, of_pair, of_sender}
+use Rattle.world_core.specs.Pairs.{is_data, of_pair, sent_number}
 use Rattle.comm_rank.specs.Held.{held_for}
 
 -- the letters for one destination, and for how many more batches there is memory
@@ -31,10 +31,12 @@ pub record AreHeld (ranks : ℕ) (held : List (List Letter)) : Type 0 where
 abbrev pub holding : List (List Letter) → Letter → List (List Letter)
 holding held l = slice_set held l.to (held_for held l.to ++ l ∷ [])
 
--- These letters are no longer held: of each pair of ranks they were the first.
+-- These letters are no longer held: of each pair of ranks they came first, and each counted for its sender.
 pub record Loses (before after : List (List Letter)) (letters : List Letter) : Type 0 where
-  pub pairs : (from to : ℕ) → of_pair from to (letters_of before) ≡ of_pair from to letters ++ of_pair from to (letters_of after)
-  pub senders : (from : ℕ) → length (of_sender from (letters_of before)) ≡ length (of_sender from letters) + length (of_sender from (letters_of after))
+  pub pairs : (from to : ℕ) →
+      of_pair from to (letters_of before) ≡ of_pair from to letters ++ of_pair from to (letters_of after)
+  pub senders : (from : ℕ) →
+      sent_number from (letters_of before) ≡ sent_number from letters + sent_number from (letters_of after)
 
 -- what is held of a pair of ranks is in the list of its destination
 abbrev pub AreApart : List (List Letter) → ℕ → Type 0

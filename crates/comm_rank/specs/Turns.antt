@@ -1,4 +1,4 @@
--- What a turn of a rank does.
+-- What a turn of a rank does, and what turns and puts leave unchanged at the post.
 use Rattle.std.specs.Prelude.{◌≡◌, ◌⊎◌, ◌≢◌, ℕ, ◌+◌, ◌-◌, ◌^◌, ◌<◌, true, IsTrue, List, [], ◌∷◌, ◌++◌, Option, Some, None, length, min, slice_get, take}
 use Rattle.std.specs.List.{AllByRecursion, AllPairs, filter}
 use Rattle.msg_codec.specs.Control.{is_control}
@@ -7,7 +7,7 @@ use Rattle.world_core.specs.declared.entry.Entry.{Entry}
 use Rattle.world_core.specs.declared.entry.Entry.TheVariants.{Put, Took}
 use Rattle.world_core.specs.Log.{IsPut, IsTake, batches_taken, letters_taken}
 use Rattle.world_core.specs.Pairs.{for_rank, of_pair}
-use Rattle.world_core.specs.Post.{CountsNeverFall, SameFulls, SamePost, SameStops, ServesAll, SomeRaised, PostState, is_full_in, link_in}
+use Rattle.world_core.specs.Post.{CountsNeverFall, SameFulls, SameMisses, SamePost, SameStops, ServesAll, SomeRaised, PostState, is_full_in, link_in}
 use Rattle.world_core.specs.Rising.{Rose}
 use Rattle.world_core.specs.Rules.{IsHonest}
 use Rattle.comm_rank.specs.declared.turn.Turn.{Turn}
@@ -16,7 +16,7 @@ use Rattle.comm_rank.specs.Agrees.{Belongs, MayTurn, PutsData}
 use Rattle.comm_rank.specs.Fault.{GivesIfFull, IfCountFull, IsFullAt, NeverStopped}
 use Rattle.comm_rank.specs.Fold.{Applies, given_by}
 use Rattle.comm_rank.specs.Held.{NoneClosed}
-use Rattle.comm_rank.specs.Rank.{Rank, folded, halted, handed, local_of, ran_at, sent_to}
+use Rattle.comm_rank.specs.Rank.{Rank, folded, halted, handed, held_letters, local_of, ran_at, sent_to}
 
 -- ---- what its log gains
 
@@ -36,8 +36,9 @@ pub record Gained (before after taken placed : List Entry) : Type 0 where
 -- ---- what it ran and sent
 
 -- These letters ran at a rank, and no others: they are the last that ran there, its contents are folded by them, and what
--- its handler gave is the last that it sent, all of it and in order.
-pub record Advanced {C : Type 0} (apply : Applies C) (old new : Rank C) (before after : List Entry) (run : List Letter) : Type 0 where
+-- its handler gave is the last that it sent, all of it and in order. Both are counted.
+pub record Advanced {C : Type 0} (apply : Applies C) (old new : Rank C) (before after : List Entry) (run : List Letter) :
+    Type 0 where
   pub ran : ran_at new after ≡ ran_at old before ++ run
   pub contents : new.contents ≡ folded apply old run
   pub sent : (to : ℕ) → sent_to new after to ≡ sent_to old before to ++ of_pair old.here to (handed apply old run)
@@ -45,7 +46,7 @@ pub record Advanced {C : Type 0} (apply : Applies C) (old new : Rank C) (before 
   pub sent_count : new.sent_count ≡ old.sent_count + length (handed apply old run)
 
 -- A turn that ended: all letters for the rank in the batches that it took ran, and the control letters wait to be handed
--- over.
+-- over. It tells how many batches it took, and how many it put, at most the largest `u64`.
 pub record Turned {C : Type 0} (apply : Applies C) (old new : Rank C) (before after : List Entry) (turn : Turn) : Type 0 where
   pub taken : List Entry
   pub placed : List Entry
@@ -95,8 +96,8 @@ pub record FullAtFirst {C : Type 0} (apply : Applies C) (old new : Rank C) (befo
 
 -- ---- why it failed
 
--- The cause of a turn's own fault: a full count is reported only by a rank that has sent as many letters as it may, and
--- only where a handler sends others.
+-- The cause of a fault of the rank itself, which met no stop: a full count is reported only by a rank that has sent as
+-- many letters as it may, and only where a handler sends others.
 pub record IsCause {C : Type 0} (apply : Applies C) (old new : Rank C) (fault : CommFault) : Type 0 where
   pub count_full : IsFullAt new.sent_count old.most fault
   pub gave : GivesIfFull apply fault
@@ -110,7 +111,7 @@ pub record WasCut {C : Type 0} (apply : Applies C) (old new : Rank C) (before af
 
 -- ---- what it found at the post
 
--- It took a batch from the rank, or found none: where the post serves that rank too, the link was empty.
+-- It took one batch from the rank, or found none: where the post serves that rank too, the link was empty before.
 abbrev pub LookedAt : ℕ → ℕ → PostState → PostState → Type 0
 LookedAt here from old new =
     (length (batches_taken from (new.log here)) ≡ length (batches_taken from (old.log here)) + 1)
@@ -127,7 +128,7 @@ pub record MetFull (here to : ℕ) (held : List (List Letter)) (old new : PostSt
 abbrev pub NoneOrFull : ℕ → ℕ → List (List Letter) → PostState → PostState → Type 0
 NoneOrFull here to held old new = NoneClosed held to ⊎ MetFull here to held old new
 
--- this rank, one of so many, is the lowest to which the link was found full
+-- This rank, one of so many, is the lowest to which the link was found full, and a closed batch for it is still held.
 pub record IsFirstFull (ranks to : ℕ) (held : List (List Letter)) (old new : PostState) : Type 0 where
   pub within : to < ranks
   pub rose : Rose (old.fulls to) (new.fulls to)
@@ -141,19 +142,23 @@ FirstFull ranks held old new (Some to) = IsFirstFull ranks to held old new
 
 -- ---- the outcomes of a turn: for the rank before and after it, and for what the post shows
 
--- It ended: it took a batch from each link that had one, and put what the rank holds, until no closed batch was held or
--- the link was full.
-pub record HasEnded {C : Type 0} (apply : Applies C) (start : C → C) (old new : Rank C) (before after : PostState) (turn : Turn) : Type 0 where
+-- It ended. From each link it took one batch or found none, and for each rank it put what is held, until no closed batch
+-- was left or the link was found full; where no link was, no letter is held. The rank still belongs to the post, and
+-- may take the next turn. It met no stop, and who has raised the stop is unchanged.
+pub record HasEnded {C : Type 0} (apply : Applies C) (start : C → C) (old new : Rank C) (before after : PostState)
+    (turn : Turn) : Type 0 where
   pub turned : Turned apply old new (before.log old.here) (after.log old.here) turn
   pub belongs : Belongs apply start new after
   pub may_turn : MayTurn new (after.log old.here)
   pub takes_from_each : (from : ℕ) → from < old.layout.ranks → LookedAt old.here from before after
   pub puts_to_each : (to : ℕ) → to < old.layout.ranks → NoneOrFull old.here to new.held before after
   pub full : FirstFull old.layout.ranks new.held before after turn.full
+  pub none_held : turn.full ≡ None → held_letters new ≡ []
   pub stops : SameStops before after
   pub halts : after.halts ≡ before.halts
 
--- It met the stop, which a rank had raised, and did nothing.
+-- It met the stop and did nothing: the rank is stopped and otherwise unchanged, and so are its log and who has raised the
+-- stop. Where the post serves all ranks, one of them had raised it.
 pub record HasHalted {C : Type 0} (old new : Rank C) (before after : PostState) : Type 0 where
   pub does_nothing : new ≡ halted old
   pub log : after.log old.here ≡ before.log old.here
@@ -161,11 +166,14 @@ pub record HasHalted {C : Type 0} (old new : Rank C) (before after : PostState) 
   pub stops : SameStops before after
   pub halts : Rose before.halts after.halts
 
--- It was cut off, and the rank raised the stop.
-pub record HasFailed {C : Type 0} (apply : Applies C) (old new : Rank C) (before after : PostState) (fault : CommFault) : Type 0 where
+-- It was cut off: it had met no stop, and the rank raised the stop.
+pub record HasFailed {C : Type 0} (apply : Applies C) (old new : Rank C) (before after : PostState) (fault : CommFault) :
+    Type 0 where
   pub was_cut : WasCut apply old new (before.log old.here) (after.log old.here) fault
   pub raises_the_stop : after.raised old.here ≡ true
   pub halts : after.halts ≡ before.halts
+
+-- ---- what stays the same at the post
 
 -- What each turn leaves unchanged at the post: its world, the ranks that it serves, the logs of other ranks, and whether
 -- these have raised the stop. An honest log stays honest, and no count falls.
@@ -173,4 +181,13 @@ pub record KeepsPost {C : Type 0} (me : Rank C) (before after : PostState) : Typ
   pub same : SamePost me.here before after
   pub honest : IsHonest (local_of me (before.log me.here)) → IsHonest (local_of me (after.log me.here))
   pub other_stops : (rank : ℕ) → rank ≢ me.here → after.raised rank ≡ before.raised rank
+  pub counts : CountsNeverFall before after
+
+-- What puts leave unchanged there: its world, the ranks that it serves, the logs of other ranks, who has raised the stop,
+-- and its counts of misses and of halts. No count falls.
+pub record PutsKeep (here : ℕ) (before after : PostState) : Type 0 where
+  pub same : SamePost here before after
+  pub stops : SameStops before after
+  pub misses : SameMisses before after
+  pub halts : after.halts ≡ before.halts
   pub counts : CountsNeverFall before after

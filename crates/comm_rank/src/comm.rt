@@ -26,9 +26,9 @@ use std::marker::Model;
 use world_core::{Limits, Post};
 use ygm_route::{Layout, Scheme};
 
-/// One rank of a world: its handler, and the letters that it holds until its links take them. It reaches the links
-/// through a post, which is passed to each turn. A turn puts data letters alone. Control letters that it takes reach no
-/// handler: they wait until `next_control` hands them over. After a turn that failed it is stopped for good.
+/// One rank of a world: its handler, and the letters that it holds until its links take them. Each turn is given the
+/// post through which the rank reaches its links. A turn puts data letters alone. The control letters that it takes
+/// reach no handler, and wait for `next_control`. After a turn that failed the rank is stopped for good.
 #[derive(Drop)]
 pub struct Comm<H> {
     pub(crate) alloc: Global,
@@ -54,7 +54,19 @@ impl<H> Model for Comm<H> {
 
     ghost Value = { Rank H };
 
-    ghost view = { λ comm. record { layout = comm.layout; scheme = comm.scheme; here = comm.here; most = comm.limits.letters; contents = comm.handler; sent_count = comm.sent.count; run_count = comm.ran; held = comm.held.lists; waiting = comm.waiting; controls = map letter_of_control comm.controls.items; stopped = comm.stopped } };
+    ghost view = { λ comm. record {
+      layout = comm.layout;
+      scheme = comm.scheme;
+      here = comm.here;
+      most = comm.limits.letters;
+      contents = comm.handler;
+      sent_count = comm.sent.count;
+      run_count = comm.ran;
+      held = comm.held.lists;
+      waiting = comm.waiting;
+      controls = map letter_of_control comm.controls.items;
+      stopped = comm.stopped;
+    } };
 
     ghost invariant = { λ comm. (comm.here < comm.layout.ranks) × (comm.scheme ≡ Direct) × (comm.sent.limit ≡ comm.limits.letters)
         × (comm.out.ranks ≡ comm.layout.ranks) × (comm.out.letters ≡ []) × (length comm.held.lists ≡ comm.layout.ranks) };
@@ -72,7 +84,7 @@ pub struct Finished<H> {
     pub handler: H,
 }
 
-/// Counts a letter as sent, and holds it.
+/// Counts a letter as sent, and holds it. A letter that is refused is neither counted nor held.
 pub(crate) fn hold(
     sent: &mut Counter,
     most: u64,
@@ -100,7 +112,7 @@ pub(crate) fn hold(
 
 impl<H: Handler> Comm<H> {
     /// Rank number `here`, which has sent and run nothing, with a handler that keeps what it starts with. It takes
-    /// memory from `alloc` as it sends and as letters run.
+    /// memory from `alloc`, also as it sends and as letters run. Out of memory, it hands the handler back.
     pub fn new(
         alloc: Global,
         layout: Layout,
@@ -143,7 +155,8 @@ impl<H: Handler> Comm<H> {
         requires destination { to < self.old.layout.ranks }
         requires data { tag < data_tags }
         requires going { self.old.stopped ≡ false }
-        ensures sent { OnOk result (HasSent self.old self.new (record { to = to; from = self.old.here; tag = tag; body = body })) }
+        ensures sent { OnOk result
+            (HasSent self.old self.new (record { to = to; from = self.old.here; tag = tag; body = body })) }
         ensures unchanged { OnErr result (self.new ≡ self.old) }
         ensures cause { IfErr result (IsFullAt self.old.sent_count self.old.most) }
         ensures full { self.old.most ≤ self.old.sent_count → result ≡ Err (CountFull self.old.most) }
@@ -195,10 +208,11 @@ impl<H: Handler> Comm<H> {
         self.ran
     }
 
-    /// Hands over a control letter: the one that turns took first of those that weren't handed over yet. Without one, it
-    /// changes nothing. It takes no memory, and a stopped rank hands them over too.
+    /// Hands over the control letter that turns took first, of those that it hasn't handed over. Without one, it changes
+    /// nothing. It takes no memory, and a stopped rank hands them over too.
     pub fn next_control(&mut self) -> Option<Control>
-        ensures some { IfSome result (λ control. self.old ≡ record self.new { controls = letter_of_control control ∷ self.new.controls }) }
+        ensures some { IfSome result (λ control.
+            self.old ≡ record self.new { controls = letter_of_control control ∷ self.new.controls }) }
         ensures none { IsNone result → (self.old.controls ≡ []) × (self.new ≡ self.old) }
         ensures agrees { (log : List Entry) → Agrees H.apply H.start self.old log → Agrees H.apply H.start self.new log }
     {
@@ -206,7 +220,7 @@ impl<H: Handler> Comm<H> {
     }
 
     /// Whether it has nothing to put and nothing to run: it holds no letter, of its own or to forward, and none waits to
-    /// run. Then it may put a Count.
+    /// run. Only then may it put a Count.
     pub fn is_idle(&self) -> bool
         ensures idle { result ≡ true → IsIdle self.now }
         ensures busy { IsIdle self.now → result ≡ true }

@@ -9,8 +9,8 @@ use thiserror::Error;
 /// Why a letter wasn't sent, or a turn failed.
 #[derive(Clone, Copy, Debug, PartialEq, Eq, Error)]
 pub enum CommFault {
-    /// `Comm::turn` and `settle` return it: a rank had raised the stop. The turn did nothing, and its rank is stopped
-    /// for good.
+    /// A rank had raised the stop. The turn that met it did nothing, and its rank is stopped for good. A send never
+    /// returns this.
     #[error("a rank has stopped")]
     Stopped,
     /// The rank has sent as many letters as it may. Each later send is refused too. After a turn or a barrier the rank

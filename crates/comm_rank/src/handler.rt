@@ -121,9 +121,9 @@ pub trait Handler: Drop {
     /// From contents to those that `new` makes with the same parameters.
     ghost start: { Self → Self };
 
-    /// Runs a letter. A letter with another tag than the handler's own, or with a body that encodes nothing, changes
-    /// nothing and sends nothing. What the handler sends is appended to `out`. Out of memory, contents and `out` are
-    /// unchanged; the letter still waits and may be run again.
+    /// Runs a letter. A letter with another tag than the handler's own, or with a body that encodes nothing, should
+    /// change nothing and send nothing. What the handler sends is appended to `out`. Out of memory, contents and `out`
+    /// are unchanged.
     fn run(
         &mut self,
         here: u32,
@@ -131,11 +131,13 @@ pub trait Handler: Drop {
         out: &mut Outgoing,
     ) -> Result<(), AllocError>
         ensures contents { OnOk result (self.new ≡ (apply self.old here out.old.ranks (letter_of letter.entry)).0) }
-        ensures sent { OnOk result (out.new.letters ≡ out.old.letters ++ (apply self.old here out.old.ranks (letter_of letter.entry)).1) }
+        ensures sent { OnOk result
+            (out.new.letters ≡ out.old.letters ++ (apply self.old here out.old.ranks (letter_of letter.entry)).1) }
         ensures contents_unchanged { OnErr result (self.new ≡ self.old) }
         ensures nothing_sent { OnErr result (out.new.letters ≡ out.old.letters) }
         ensures ranks { out.new.ranks ≡ out.old.ranks };
 
     /// Running a letter doesn't change the start.
-    ghost keeps_start: { (contents : Self) (here ranks : ℕ) (l : Letter) → start (apply contents here ranks l).0 ≡ start contents };
+    ghost keeps_start: { (contents : Self) (here ranks : ℕ) (l : Letter) →
+        start (apply contents here ranks l).0 ≡ start contents };
 }

@@ -25,7 +25,10 @@ impl Model for Queue {
 
     ghost Value = { Queued };
 
-    ghost view = { λ queue. record { letters = flat_map (λ batch. batch) queue.batches.items; room = deque_capacity queue.batches - deque_len queue.batches } };
+    ghost view = { λ queue. record {
+      letters = flat_map (λ batch. batch) queue.batches.items;
+      room = deque_capacity queue.batches - deque_len queue.batches;
+    } };
 
     ghost invariant = { λ queue. AllByRecursion (λ batch. length batch ≡ 1) queue.batches.items };
 }
@@ -84,7 +87,10 @@ impl Model for Held {
 
     ghost Value = { Stored };
 
-    ghost view = { λ held. record { lists = map (λ queue. queue.letters) held.queues.items; room = map (λ queue. queue.room) held.queues.items } };
+    ghost view = { λ held. record {
+      lists = map (λ queue. queue.letters) held.queues.items;
+      room = map (λ queue. queue.room) held.queues.items;
+    } };
 
     ghost invariant = { λ held. AreHeld held.ranks (map (λ queue. queue.letters) held.queues.items) };
 }
@@ -112,7 +118,8 @@ impl Held {
         requires data { IsHeldFor (length self.old.lists) letter.to (letter_of letter) }
         requires within { letter.to < length self.old.lists }
         ensures ok { OnOk result (self.new.lists ≡ holding self.old.lists (letter_of letter.entry)) }
-        ensures gains { OnOk result (Gains (letters_of self.old.lists) (letters_of self.new.lists) (letter_of letter.entry ∷ [])) }
+        ensures gains { OnOk result
+            (Gains (letters_of self.old.lists) (letters_of self.new.lists) (letter_of letter.entry ∷ [])) }
         ensures err { OnErr result (self.new.lists ≡ self.old.lists) }
     {
         let mut batch = Batch::empty(self.alloc);

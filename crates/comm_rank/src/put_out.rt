@@ -3,9 +3,10 @@ ghost use Rattle.std.specs.Prelude.{◌≡◌, ◌<◌, ◌≤◌, ℕ, length, 
 ghost use Rattle.world_core.specs.Rules.{IsHonest};
 ghost use Rattle.comm_rank.specs.Agrees.{Belongs, MayTurn};
 ghost use Rattle.comm_rank.specs.Held.{held_for};
-ghost use Rattle.comm_rank.specs.Moves.{HasPutAll, HasPutEach, HasPutFirst, HasPutTo, MayPut, MoveKeeps, PutAllFailed, PutsFailed};
+ghost use Rattle.comm_rank.specs.Moves.{HasPutAll, HasPutEach, HasPutFirst, HasPutTo, MayPut, PutAllFailed, PutsFailed};
 ghost use Rattle.comm_rank.specs.Rank.{local_of};
 ghost use Rattle.comm_rank.specs.Store.{AreApart, OthersUnchanged};
+ghost use Rattle.comm_rank.specs.Turns.{PutsKeep};
 
 use crate::held::Held;
 use crate::{Comm, CommFault, Handler};
@@ -18,7 +19,7 @@ struct Placed {
     full: bool,
 }
 
-/// Puts the first letter that is held for a destination. It returns whether the link wasn't full.
+/// Puts the first letter that is held for a destination. It returns false where the link was full.
 fn put_first<P: Post>(held: &mut Held, post: &mut P, here: u32, to: u32) -> Result<bool, CommFault>
     requires may_put { MayPut here held.old.lists (P.state post.old) }
     requires within { to < length held.old.lists }
@@ -48,7 +49,8 @@ fn put_first<P: Post>(held: &mut Held, post: &mut P, here: u32, to: u32) -> Resu
 fn put_to<P: Post>(held: &mut Held, post: &mut P, here: u32, to: u32) -> Result<Placed, CommFault>
     requires may_put { MayPut here held.old.lists (P.state post.old) }
     requires within { to < length held.old.lists }
-    ensures put { IfOk result (λ what. HasPutTo here to held.old.lists held.new.lists (P.state post.old) (P.state post.new) what.put what.full) }
+    ensures put { IfOk result (λ what.
+        HasPutTo here to held.old.lists held.new.lists (P.state post.old) (P.state post.new) what.put what.full) }
     ensures failed { IfErr result (PutsFailed here held.old.lists held.new.lists (P.state post.old) (P.state post.new)) }
     ensures others { OthersUnchanged to held.old.lists held.new.lists }
 {
@@ -77,7 +79,8 @@ fn put_each<P: Post>(
 ) -> Result<(u64, Option<u32>), CommFault>
     requires may_put { MayPut here held.old.lists (P.state post.old) }
     requires ranks { ranks ≡ length held.old.lists }
-    ensures put { IfOk result (λ what. HasPutEach here ranks held.old.lists held.new.lists (P.state post.old) (P.state post.new) what.0 what.1) }
+    ensures put { IfOk result (λ what.
+        HasPutEach here ranks held.old.lists held.new.lists (P.state post.old) (P.state post.new) what.0 what.1) }
     ensures failed { IfErr result (PutsFailed here held.old.lists held.new.lists (P.state post.old) (P.state post.new)) }
 {
     let mut put: u64 = 0;
@@ -93,8 +96,8 @@ fn put_each<P: Post>(
 }
 
 impl<H: Handler> Comm<H> {
-    /// Puts what the rank holds, destination by destination. It returns how many batches, and the lowest rank
-    /// to which the link was full.
+    /// Puts what the rank holds, destination by destination. It returns how many batches, at most `u64::MAX`, and the
+    /// lowest rank to which the link was full.
     pub(crate) fn put_all<P: Post>(&mut self, post: &mut P) -> Result<(u64, Option<u32>), CommFault>
         requires belongs { Belongs H.apply H.start self.old (P.state post.old) }
         requires may_turn { MayTurn self.old ((P.state post.old).log self.old.here) }
@@ -102,8 +105,9 @@ impl<H: Handler> Comm<H> {
         ensures failed { IfErr result (PutAllFailed self.old self.new (P.state post.old) (P.state post.new)) }
         ensures belongs { Belongs H.apply H.start self.new (P.state post.new) }
         ensures may_turn { MayTurn self.new ((P.state post.new).log self.old.here) }
-        ensures honest { IsHonest (local_of self.old ((P.state post.old).log self.old.here)) → IsHonest (local_of self.old ((P.state post.new).log self.old.here)) }
-        ensures keeps { MoveKeeps self.old.here (P.state post.old) (P.state post.new) }
+        ensures honest { IsHonest (local_of self.old ((P.state post.old).log self.old.here)) →
+            IsHonest (local_of self.old ((P.state post.new).log self.old.here)) }
+        ensures keeps { PutsKeep self.old.here (P.state post.old) (P.state post.new) }
     {
         // No put is a letter too many.
         let within = self.sent.count() <= self.limits.letters;

@@ -20,12 +20,14 @@ use crate::{Comm, CommFault, Handler, Outgoing};
 use msg_codec::{Batch, Control, Counter, control_of};
 use world_core::{DATA_TAGS, Post};
 
-/// What a turn did: how many batches it took, how many it put, and the lowest rank to which the link was full.
-/// A count at the largest value of its type stays there.
+/// What a turn did.
 #[derive(Clone, Copy, Debug, PartialEq, Eq)]
 pub struct Turn {
+    /// How many batches it took.
     pub took: u32,
+    /// How many batches it put, at most `u64::MAX`.
     pub put: u64,
+    /// The lowest rank to which it found the link full.
     pub full: Option<u32>,
 }
 
@@ -40,10 +42,12 @@ fn send_out(
     requires limit { sent.old.limit ≡ most }
     requires ranks { length held.old.lists ≡ out.now.ranks }
     requires here { here < out.now.ranks }
-    ensures held { OnOk result (Gains (letters_of held.old.lists) (letters_of held.new.lists) (map (letter_by here) out.now.letters)) }
+    ensures held { OnOk result
+        (Gains (letters_of held.old.lists) (letters_of held.new.lists) (map (letter_by here) out.now.letters)) }
     ensures counted { OnOk result (sent.new ≡ record sent.old { count = sent.old.count + length out.now.letters }) }
     ensures part { OnErr result ((k : ℕ) × (k < length out.now.letters)
-        × Gains (letters_of held.old.lists) (letters_of held.new.lists) (take k (map (letter_by here) out.now.letters)) × (sent.new ≡ record sent.old { count = sent.old.count + k })) }
+        × Gains (letters_of held.old.lists) (letters_of held.new.lists) (take k (map (letter_by here) out.now.letters))
+        × (sent.new ≡ record sent.old { count = sent.old.count + k })) }
     ensures all { length held.new.lists ≡ length held.old.lists }
     ensures cause { IfErr result (IsFullAt sent.new.count most) }
     ensures one_too_many { IfErr result (λ fault. IfCountFull fault (λ _. most < sent.old.count + length out.now.letters)) }
@@ -75,25 +79,27 @@ fn begins_with_control(batch: &Batch) -> bool
 
 impl<H: Handler> Comm<H> {
     /// A turn. It looks whether the stop is raised. Then it takes at most one batch from each link, in the order of
-    /// ranks, and runs the letters for this rank in order; a control letter is for no handler, and waits for
-    /// `next_control`. Then it puts what the rank holds, destination by destination, until nothing remains or the link
-    /// is full.
+    /// ranks, and runs the letters for this rank in order; a control letter runs nowhere, and waits for `next_control`.
+    /// Last it puts what the rank holds, destination by destination, until nothing remains or the link is full.
     ///
-    /// A rank that put a Count and took no letter for itself since may take a turn only while it holds no letter of its
-    /// own.
+    /// In a barrier, a rank that took no letter for itself since its last Count may take a turn only while it holds no
+    /// letter of its own.
     ///
-    /// Where a rank has raised the stop, it returns `Stopped` and does nothing. Where a letter can't be taken, run or
-    /// put, for lack of memory or because the handler gave a letter too many, this rank raises the stop, and the letters
-    /// that it took and that haven't run wait for ever. Control letters that it took still wait for `next_control`.
-    /// After either fault the rank is stopped.
+    /// Where the stop is raised, it returns `Stopped` and does nothing. Where a letter can't be taken, run or put, for
+    /// lack of memory or because the handler gave a letter too many, this rank raises the stop. The letters that it
+    /// took and that haven't run wait for ever; its control letters still wait for `next_control`. After either fault
+    /// the rank is stopped.
     pub fn turn<P: Post>(&mut self, post: &mut P) -> Result<Turn, CommFault>
         requires going { self.old.stopped ≡ false }
         requires belongs { Belongs H.apply H.start self.old (P.state post.old) }
         requires may_turn { MayTurn self.old ((P.state post.old).log self.old.here) }
         ensures ended { IfOk result (HasEnded H.apply H.start self.old self.new (P.state post.old) (P.state post.new)) }
-        ensures halted { IfErr result (λ fault. IfStopped fault (HasHalted self.old self.new (P.state post.old) (P.state post.new))) }
-        ensures failed { IfErr result (λ fault. UnlessStopped fault (HasFailed H.apply self.old self.new (P.state post.old) (P.state post.new) fault)) }
-        ensures sees_the_stop { (rank : ℕ) → IsTrue ((P.state post.old).serves rank) → (P.state post.old).raised rank ≡ true → result ≡ Err Stopped }
+        ensures halted { IfErr result (λ fault. IfStopped fault
+            (HasHalted self.old self.new (P.state post.old) (P.state post.new))) }
+        ensures failed { IfErr result (λ fault. UnlessStopped fault
+            (HasFailed H.apply self.old self.new (P.state post.old) (P.state post.new) fault)) }
+        ensures sees_the_stop { (rank : ℕ) → IsTrue ((P.state post.old).serves rank) →
+            (P.state post.old).raised rank ≡ true → result ≡ Err Stopped }
         ensures rank { Worked (record self.old { stopped = is_err result }) self.new }
         ensures post { KeepsPost self.old (P.state post.old) (P.state post.new) }
     {
@@ -109,12 +115,13 @@ impl<H: Handler> Comm<H> {
         ended
     }
 
-    /// The turn itself.
+    /// The turn itself, once no stop was seen.
     fn work<P: Post>(&mut self, post: &mut P) -> Result<Turn, CommFault>
         requires belongs { Belongs H.apply H.start self.old (P.state post.old) }
         requires may_turn { MayTurn self.old ((P.state post.old).log self.old.here) }
         ensures ended { IfOk result (HasEnded H.apply H.start self.old self.new (P.state post.old) (P.state post.new)) }
-        ensures cut { IfErr result (WasCut H.apply self.old self.new ((P.state post.old).log self.old.here) ((P.state post.new).log self.old.here)) }
+        ensures cut { IfErr result (WasCut H.apply self.old self.new
+            ((P.state post.old).log self.old.here) ((P.state post.new).log self.old.here)) }
         ensures rank { Worked self.old self.new }
         ensures keeps { WorkKeeps self.old (P.state post.old) (P.state post.new) }
     {
@@ -129,7 +136,8 @@ impl<H: Handler> Comm<H> {
         requires belongs { Belongs H.apply H.start self.old (P.state post.old) }
         requires may_turn { MayTurn self.old ((P.state post.old).log self.old.here) }
         ensures took { IfOk result (HasTakenAll H.apply H.start self.old self.new (P.state post.old) (P.state post.new)) }
-        ensures cut { IfErr result (WasCut H.apply self.old self.new ((P.state post.old).log self.old.here) ((P.state post.new).log self.old.here)) }
+        ensures cut { IfErr result (WasCut H.apply self.old self.new
+            ((P.state post.old).log self.old.here) ((P.state post.new).log self.old.here)) }
         ensures rank { Worked self.old self.new }
         ensures keeps { TakesKeep self.old (P.state post.old) (P.state post.new) }
     {
@@ -146,8 +154,10 @@ impl<H: Handler> Comm<H> {
         requires belongs { Belongs H.apply H.start self.old (P.state post.old) }
         requires may_turn { MayTurn self.old ((P.state post.old).log self.old.here) }
         requires sender { from < self.old.layout.ranks }
-        ensures took { IfOk result (HasTakenFrom from H.apply H.start self.old self.new (P.state post.old) (P.state post.new)) }
-        ensures cut { IfErr result (WasCutFrom from H.apply self.old self.new ((P.state post.old).log self.old.here) ((P.state post.new).log self.old.here)) }
+        ensures took { IfOk result
+            (HasTakenFrom from H.apply H.start self.old self.new (P.state post.old) (P.state post.new)) }
+        ensures cut { IfErr result (WasCutFrom from H.apply self.old self.new
+            ((P.state post.old).log self.old.here) ((P.state post.new).log self.old.here)) }
         ensures rank { Worked self.old self.new }
         ensures keeps { TakesKeep self.old (P.state post.old) (P.state post.new) }
     {
@@ -179,8 +189,8 @@ impl<H: Handler> Comm<H> {
         Ok(())
     }
 
-    /// Runs the letter that waits first. Where the handler refuses it, the rank is unchanged. Where not all that the
-    /// handler gave can be sent, the letter still waits.
+    /// Runs the letter that waits first. Where the handler refuses it, the rank is unchanged. Where one of the letters
+    /// that the handler gave can't be sent, those before it are, and the letter that ran still waits.
     fn run_first(&mut self) -> Result<(), CommFault>
         requires some { 0 < length self.old.waiting }
         requires for_here { AllByRecursion (IsFor self.old.here) self.old.waiting }

@@ -12,3 +12,4 @@ pub mod Hearing
 pub mod Puts
 pub mod Sums
 pub mod Waited
+pub mod Polls

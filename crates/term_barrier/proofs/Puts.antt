@@ -5,3 +5,4 @@ pub mod Log
 pub mod Agrees
 pub mod Due
 pub mod Moved
+pub mod Totals

@@ -87,10 +87,11 @@ totals_put barrier to = barrier.over + (if nat_lt 0 to && nat_lt to barrier.next
 abbrev pub heard_of : BarrierState → ℕ → Heard
 heard_of barrier from = slice_index_or barrier.heard from none_heard
 
--- What holds of each barrier, whatever its log: it counted no more rounds than it may, it knows all of them but perhaps the
--- last, and it heard of each rank.
+-- What holds of each barrier, whatever its log: it may count a round, it counted no more than it may and knows all of them
+-- but perhaps the last, and it heard of each rank.
 pub record InRange (barrier : BarrierState) : Type 0 where
   pub within : barrier.here < barrier.layout.ranks
+  pub some : 1 ≤ barrier.rounds
   pub few : barrier.rounds ≤ most_rounds
   pub counted_few : barrier.counted ≤ barrier.rounds
   pub counted_first : barrier.known ≤ barrier.counted
@@ -222,4 +223,15 @@ HasNoneToPut barrier = barrier.here ≡ 0 → (barrier.known < barrier.over) ⊎
 
 -- At rank 0, it put the Totals of the present round to all ranks, or wasn't handed all Counts of that round.
 abbrev pub HasPutTotals : BarrierState → Type 0
-HasPutTotals barrier = barrier.here ≡ 0 → (barrier.known < barrier.over) ⊎ ((rank : ℕ) × IsMissing barrier rank)
+HasPutTotals barrier = barrier.here ≡ 0 → (barrier.known < barrier.over) ⊎ (HasHeardAll barrier → ⊥)
+
+-- Rank 0 may put Totals: of the present round, whose Counts it was handed.
+pub record HasTotalsDue (barrier : BarrierState) : Type 0 where
+  pub first_rank : barrier.here ≡ 0
+  pub present : barrier.over ≡ barrier.known
+  pub counted : barrier.known < barrier.counted
+  pub every : HasEveryCount barrier
+
+-- where the Total goes that is next, of so many ranks
+abbrev pub destination : ℕ → ℕ → ℕ
+destination ranks next = if nat_lt next ranks then next else 0

@@ -17,9 +17,8 @@ use Rattle.comm_rank.specs.declared.turn.Turn.{Turn}
 use Rattle.comm_rank.specs.Agrees.{Belongs, MayTurn}
 use Rattle.comm_rank.specs.Fault.{IfStopped, UnlessStopped}
 use Rattle.comm_rank.specs.Fold.{Applies}
-use Rattle.comm_rank.specs.Moves.{MoveKeeps}
 use Rattle.comm_rank.specs.Rank.{IsSameRank, Rank, held_letters, local_of}
-use Rattle.comm_rank.specs.Turns.{Advanced, HasFailed, HasHalted, KeepsPost, LookedAt, Turned}
+use Rattle.comm_rank.specs.Turns.{Advanced, HasFailed, HasHalted, KeepsPost, LookedAt, PutsKeep, Turned}
 use Rattle.term_barrier.specs.declared.polled.Polled.{Polled}
 use Rattle.term_barrier.specs.declared.polled.Polled.TheVariants.{Left, Waiting as Waits}
 use Rattle.term_barrier.specs.declared.polled.Waiting.{Waiting}
@@ -131,7 +130,7 @@ pub record HasPutControls (held : List Letter) (old new : BarrierState) (before 
   pub counted : new.counted ≡ old.counted + counts controls
   pub none_held : 0 < counts controls → held ≡ []
   pub barrier : new ≡ record old { counted = new.counted; over = new.over; next = new.next }
-  pub keeps : MoveKeeps old.here before after
+  pub keeps : PutsKeep old.here before after
   pub honest : IsHonest (local_at before old.here) → IsHonest (local_at after old.here)
 
 -- the first rank of two, where there is one
@@ -152,7 +151,7 @@ IsOtherReason barrier (Spent round) = (round ≡ barrier.rounds) × (barrier.cou
 pub record AfterTurn {C : Type 0} (old new : Rank C) (before after : PostState) : Type 0 where
   pub handed_over : new ≡ record old { controls = [] }
   pub gained : GainedControls (held_letters old) (before.log old.here) (after.log old.here)
-  pub keeps : MoveKeeps old.here before after
+  pub keeps : PutsKeep old.here before after
   pub honest : IsHonest (local_at before old.here) → IsHonest (local_at after old.here)
 
 -- ---- the outcomes of a poll

@@ -2,7 +2,7 @@
 ghost use Rattle.std.specs.Prelude.{◌≡◌, ◌<◌, true, false, [], ◌∷◌, IfOk};
 ghost use Rattle.msg_codec.specs.Control.{letter_of_control};
 ghost use Rattle.msg_codec.specs.declared.control.Control.TheVariants.{Count, Total};
-ghost use Rattle.term_barrier.specs.Barriers.{HasRoom, fresh_barrier, with_letter, with_letters, with_total};
+ghost use Rattle.term_barrier.specs.Barriers.{HasRoom, InRange, fresh_barrier, with_letter, with_letters, with_total};
 
 use crate::heard::{Heard, RoundSums};
 use comm_rank::{Comm, Handler};
@@ -87,6 +87,13 @@ impl Barrier {
         ensures { result ≡ self.now.inside }
     {
         self.inside
+    }
+
+    /// Does nothing, and states what is always true.
+    pub(crate) fn holds(&self)
+        ensures in_range { InRange self.now }
+    {
+        let _ = &self.alloc;
     }
 
     /// Takes in all control letters that the rank took and that weren't handed over yet.

@@ -3,7 +3,7 @@ ghost use Rattle.std.specs.Prelude.{◌≡◌, ◌<◌, ℕ, Err, true, false, N
 ghost use Rattle.world_core.specs.Post.{PostState};
 ghost use Rattle.comm_rank.specs.declared.fault.CommFault.TheVariants.{NoMemory, Stopped};
 ghost use Rattle.comm_rank.specs.Fault.{IfStopped, UnlessStopped};
-ghost use Rattle.comm_rank.specs.Rank.{Rank, Worked as RankWorked, local_of};
+ghost use Rattle.comm_rank.specs.Rank.{IsSameRank, Rank, Worked as RankWorked, local_of};
 ghost use Rattle.comm_rank.specs.Turns.{HasEnded, HasHalted, KeepsPost};
 ghost use Rattle.term_barrier.specs.declared.polled.Waiting.TheVariants.{Worked, Link};
 ghost use Rattle.term_barrier.specs.Polls.{AfterTurn, BarrierEnded, BarrierFailed, IsAnswer, IsOtherReason, IsSameBarrier, PollEnded, PollFailed, Stands, either};
@@ -85,7 +85,7 @@ impl Barrier {
         requires inside { self.old.inside ≡ true }
         ensures after { AfterTurn comm.old comm.new (P.state post.old) (P.state post.new) }
         ensures stands { Stands H.apply H.start self.new comm.new (P.state post.new) }
-        ensures answers { (one : Rank H) (before : PostState) → HasEnded H.apply H.start one comm.old before (P.state post.old) turn →
+        ensures answers { (one : Rank H) (before : PostState) → IsSameRank one comm.old → HasEnded H.apply H.start one comm.old before (P.state post.old) turn →
             IfOk result (IsAnswer self.old self.new (local_of comm.new ((P.state post.new).log comm.new.here)) before (P.state post.new) turn) }
         ensures no_memory { IfErr result (λ fault. fault ≡ NoMemory) }
         ensures barrier { IsSameBarrier self.old self.new }
@@ -99,7 +99,10 @@ impl Barrier {
                 round: self.known - 1,
             });
         }
-        let full = self.put_controls(comm, post)?;
+        self.holds();
+        let put = self.put_controls(comm, post);
+        self.holds();
+        let full = put?;
         Ok(Polled::Waiting(self.why(turn, full)))
     }
 

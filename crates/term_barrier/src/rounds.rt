@@ -7,7 +7,7 @@ ghost use Rattle.world_core.specs.Rules.{first_broken};
 ghost use Rattle.world_core.specs.Rules.Deed.{Puts};
 ghost use Rattle.comm_rank.specs.declared.fault.CommFault.TheVariants.{NoMemory};
 ghost use Rattle.comm_rank.specs.Rank.{IsIdle, held_letters};
-ghost use Rattle.term_barrier.specs.Barriers.{HasHeardAll, HasPutTotals, IsMissing, IsNextTotal, IsTotalDue, heard_of, round_sums, sums_heard_at, with_total_put};
+ghost use Rattle.term_barrier.specs.Barriers.{HasHeardAll, HasPutTotals, HasTotalsDue, destination, IsMissing, IsNextTotal, IsTotalDue, heard_of, round_sums, sums_heard_at, with_total_put};
 ghost use Rattle.term_barrier.specs.Polls.{FoundFull, HasPutControls, PutsLetter, Stands};
 
 use crate::Barrier;
@@ -36,6 +36,13 @@ fn put_letter<P: Post>(
         Err(PutBack::Full(_)) => Ok(false),
         Err(PutBack::NoMemory(_)) => Err(CommFault::NoMemory),
     }
+}
+
+/// Where the Total goes that is next, of so many ranks: to ranks 1, 2 and so on, and to rank 0 last.
+fn destination(next: u32, ranks: u32) -> u32
+    ensures { result ≡ destination ranks next }
+{
+    if next < ranks { next } else { 0 }
 }
 
 impl Barrier {
@@ -160,9 +167,50 @@ impl Barrier {
         Ok(true)
     }
 
-    /// At rank 0, where it has the Counts of all ranks of the present round, puts the Total of that round to the other
-    /// ranks, in order, and to itself last. It returns the rank to which the link was full, where one was.
-    pub(crate) fn put_totals<H: Handler, P: Post>(
+    /// Whether Totals of the present round are due: this is rank 0, which has the Counts of all ranks.
+    fn has_totals_due(&self) -> bool
+        requires few { (heard_of self.now 0).rounds ≤ self.now.over + 1 }
+        ensures due { result ≡ true → HasTotalsDue self.now }
+        ensures none { result ≡ false → self.now.known < self.now.counted → HasPutTotals self.now }
+    {
+        self.here == 0
+            && self.over == self.known
+            && self.counted > self.known
+            && self.missing().is_none()
+    }
+
+    /// Puts the Totals of that round, with these sums, to the other ranks in order, and to itself last. It returns the rank
+    /// to which the link was full, where one was.
+    fn put_each_total<H: Handler, P: Post>(
+        &mut self,
+        comm: &Comm<H>,
+        post: &mut P,
+        sums: RoundSums,
+    ) -> Result<Option<u32>, CommFault>
+        requires stands { Stands H.apply H.start self.old comm.now (P.state post.old) }
+        requires inside { self.old.inside ≡ true }
+        requires all_handed { comm.now.controls ≡ [] }
+        requires due { HasTotalsDue self.old }
+        requires sums { sums ≡ round_sums self.old }
+        ensures controls { HasPutControls (held_letters comm.now) self.old self.new (P.state post.old) (P.state post.new) }
+        ensures stands { Stands H.apply H.start self.new comm.now (P.state post.new) }
+        ensures counted { self.new.counted ≡ self.old.counted }
+        ensures full { IfOk result (λ full. FoundFull full (P.state post.old) (P.state post.new)) }
+        ensures put { result ≡ Ok None → self.new.over ≡ self.old.over + 1 }
+        ensures no_memory { IfErr result (λ fault. fault ≡ NoMemory) }
+    {
+        let ranks = self.layout.ranks();
+        for next in self.next..ranks + 1 {
+            let to = destination(next, ranks);
+            if !self.put_total(comm, post, to, sums)? {
+                return Ok(Some(to));
+            }
+        }
+        Ok(None)
+    }
+
+    /// Puts the Totals that are due. It returns the rank to which the link was full, where one was.
+    fn put_totals<H: Handler, P: Post>(
         &mut self,
         comm: &Comm<H>,
         post: &mut P,
@@ -177,19 +225,12 @@ impl Barrier {
         ensures put { result ≡ Ok None → self.new.known < self.new.counted → HasPutTotals self.new }
         ensures no_memory { IfErr result (λ fault. fault ≡ NoMemory) }
     {
-        if self.here != 0 || self.over != self.known || self.counted <= self.known || self.missing().is_some() {
+        self.holds();
+        if !self.has_totals_due() {
             return Ok(None);
         }
         let sums = self.round_sums();
-        for to in self.next..self.layout.ranks() {
-            if !self.put_total(comm, post, to, sums)? {
-                return Ok(Some(to));
-            }
-        }
-        if !self.put_total(comm, post, 0, sums)? {
-            return Ok(Some(0));
-        }
-        Ok(None)
+        self.put_each_total(comm, post, sums)
     }
 
     /// Puts what is due of Counts and Totals. It returns the rank to which the link was full, where one was.
@@ -202,7 +243,6 @@ impl Barrier {
         requires inside { self.old.inside ≡ true }
         requires all_handed { comm.now.controls ≡ [] }
         ensures controls { HasPutControls (held_letters comm.now) self.old self.new (P.state post.old) (P.state post.new) }
-        ensures one_count { self.new.counted ≤ self.old.counted + 1 }
         ensures stands { Stands H.apply H.start self.new comm.now (P.state post.new) }
         ensures full { IfOk result (λ full. FoundFull full (P.state post.old) (P.state post.new)) }
         ensures count_put { result ≡ Ok None → IsIdle comm.now → self.new.counted < self.new.rounds → self.new.known < self.new.counted }

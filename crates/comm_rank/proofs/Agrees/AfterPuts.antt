@@ -30,6 +30,7 @@ use Rattle.comm_rank.specs.Rank.{Rank, held_letters, local_of, ran_at, sent_to}
 use Rattle.comm_rank.specs.Turns.{FirstFull, Gained}
 use Rattle.comm_rank.proofs.Agrees.Served.{served_more}
 use Rattle.comm_rank.proofs.Agrees.Direct.{nothing_to_forward}
+use Rattle.comm_rank.proofs.Store.Apart.{all_empty}
 
 -- ---- what a log took is unchanged when it gains puts
 
@@ -52,16 +53,17 @@ data_put log now placed gained all more =
     let whole : letters_put now ≡ letters_put log ++ letters_put placed = ap letters_put gained ∙ flat_map-append letters_put_by log placed in
     subst (AllByRecursion (λ l. IsTrue (is_data l))) (sym whole) (all_append (λ l. IsTrue (is_data l)) (letters_put log) (letters_put placed) all more)
 
-puts_none : (taken : List Entry) → AllByRecursion IsTake taken → letters_put taken ≡ []
-puts_none [] takes = refl
-puts_none (Took from batch ∷ taken) takes = puts_none taken takes.1
-puts_none (Put to batch ∷ taken) takes = absurd takes.0
+-- takes put no letter
+pub takes_put_none : (taken : List Entry) → AllByRecursion IsTake taken → letters_put taken ≡ []
+takes_put_none [] takes = refl
+takes_put_none (Took from batch ∷ taken) takes = takes_put_none taken takes.1
+takes_put_none (Put to batch ∷ taken) takes = absurd takes.0
 
 -- and so does one that a turn ended or cut off
 pub data_gained : (before after taken placed : List Entry) → Gained before after taken placed → PutsData before →
     PutsData after
 data_gained before after taken placed gained all =
-    let none : PutsData taken = subst (AllByRecursion (λ l. IsTrue (is_data l))) (sym (puts_none taken gained.takes)) tt in
+    let none : PutsData taken = subst (AllByRecursion (λ l. IsTrue (is_data l))) (sym (takes_put_none taken gained.takes)) tt in
     data_put (before ++ taken) after placed gained.log (data_put before (before ++ taken) taken refl all none) gained.data_alone
 
 -- ---- the rank
@@ -153,14 +155,15 @@ module _ {C : Type 0} (apply : Applies C) (start : C → C) (me : Rank C) (old :
     pub may_turn_after : MayTurn (record me { held = held }) (new.log me.here)
     may_turn_after = subst (λ l. MaySend l held) (local_is apply start (record me { held = held }) new belongs_after) (moved.may_send may_send)
 
-  pub has_put_all : (held : List (List Letter)) (new : PostState) (put : ℕ) (full : Option ℕ) (ranks : ℕ) → ranks ≡ me.layout.ranks →
+  pub has_put_all : (held : List (List Letter)) (new : PostState) (put : ℕ) (full : Option ℕ) (ranks : ℕ) → ranks ≡ me.layout.ranks → length me.held ≡ me.layout.ranks →
       HasPutEach me.here ranks me.held held old new put full → HasPutAll me (record me { held = held }) old new put full
-  has_put_all held new put full ranks is p = record {
+  has_put_all held new put full ranks is all p = record {
     placed = p.placed;
     out = put_out held new p.placed p.moved;
     count = p.count;
     none_or_full = λ to within. p.none_or_full to (omega (arith, within, is));
     first_full = subst (λ n. FirstFull n held old new full) is p.first_full;
+    none_held = λ none. all_empty held (λ to within. p.none_held none to (omega (arith, within, is, all, p.moved.all)));
   }
 
   pub put_all_failed : (held : List (List Letter)) (new : PostState) (fault : CommFault) → PutsFailed me.here me.held held old new fault → PutAllFailed me (record me { held = held }) old new fault

@@ -1,44 +1,29 @@
 -- A rank that agrees with its log and sends a letter still agrees with it.
-use Rattle.std.proofs.Common.{◌≡◌, ◌≢◌, ℕ, ◌+◌, true, false, ◌&&◌, nat_eq, eq-eqb, eqb-true, List, [], ◌∷◌, ◌++◌, length, refl, sym, ap, ◌∙◌, subst, append-nil, append_assoc, arith}
+use Rattle.std.proofs.Common.{◌≡◌, ℕ, ◌+◌, List, [], ◌∷◌, ◌++◌, sym, ap, ◌∙◌, subst, append-nil, append_assoc, arith}
 use Rattle.std.specs.Bool.{IsTrue}
-use Rattle.std.proofs.lemmas.Bool.{false_from_ne_true}
 use Rattle.msg_codec.specs.declared.letter.Letter.{Letter}
 use Rattle.world_core.specs.declared.entry.Entry.{Entry}
 use Rattle.world_core.specs.Log.{letters_of}
-use Rattle.world_core.specs.Pairs.{is_data, is_of_pair, of_pair, of_sender, pair_put}
-use Rattle.world_core.proofs.Pairs.Numbers.{sent_number-is}
-use Rattle.list_facts.proofs.Tests.{and_first, and_second}
+use Rattle.world_core.specs.Pairs.{is_data, of_pair, pair_put}
 use Rattle.list_facts.specs.Sublist.{IsSublist}
 use Rattle.list_facts.proofs.Sublist.{sublist_longer}
 use Rattle.comm_rank.specs.Agrees.{Agrees}
 use Rattle.comm_rank.specs.Fold.{Applies}
 use Rattle.comm_rank.specs.Held.{Gains}
 use Rattle.comm_rank.specs.Rank.{Rank, held_letters, sent_to}
-
-not_of_pair : (from to here : ℕ) (l : Letter) → l.from ≡ here → from ≢ here → is_of_pair from to l ≡ false
-not_of_pair from to here l mine other = false_from_ne_true (is_of_pair from to l) (λ yes.
-    other (sym (eqb-true l.from from (and_second (is_data l) (nat_eq l.from from) (and_first (is_data l && nat_eq l.from from) (nat_eq l.to to) yes))) ∙ mine))
+use Rattle.comm_rank.proofs.Agrees.Arrived.{none_of_others, own_one}
 
 module _ {C : Type 0} (apply : Applies C) (start : C → C) (me : Rank C) (log : List Entry) (agrees : Agrees apply start me log) (held : List (List Letter)) (count : ℕ) where
   -- one more letter of its own is held and counted
   pub agrees_sent : (l : Letter) → l.from ≡ me.here → IsTrue (is_data l) → Gains (held_letters me) (letters_of held) (l ∷ []) → count ≡ me.sent_count + 1 →
       Agrees apply start (record me { sent_count = count; held = held }) log
   agrees_sent l mine tagged gains counted =
-      let one : length (of_sender me.here (l ∷ [])) ≡ 1 = (let e : nat_eq l.from me.here ≡ true = eq-eqb _ _ mine in rw (tagged, e) refl) in
       record {
         nothing_waits = agrees.nothing_waits;
         forwards = λ from to other.
-            let none : of_pair from to (l ∷ []) ≡ [] = rw (not_of_pair from to me.here l mine other) refl in
+            let none : of_pair from to (l ∷ []) ≡ [] = none_of_others me.here from to (l ∷ []) other (record { sender = mine; tag = tagged }, tt) in
             gains.pairs from to ∙ ap (λ xs. of_pair from to (held_letters me) ++ xs) none ∙ append-nil _ ∙ agrees.forwards from to other;
-        sent_count = omega (
-          arith,
-          counted,
-          agrees.sent_count,
-          gains.senders me.here,
-          one,
-          sent_number-is me.here (held_letters me),
-          sent_number-is me.here (letters_of held),
-        );
+        sent_count = omega (arith, counted, agrees.sent_count, gains.senders me.here, own_one me.here l tagged mine);
         run_count = agrees.run_count;
         contents = agrees.contents;
         given_is_sent = λ to.

@@ -1,5 +1,5 @@
 -- A rank takes a batch, and runs its letters.
-use Rattle.std.proofs.Common.{◌≡◌, ◌≢◌, ℕ, ◌+◌, ◌<◌, ◌≤◌, true, false, nat_eq, eq-eqb, ne_eqb, List, [], ◌∷◌, ◌++◌, length, drop, refl, sym, ap, ◌∙◌, subst, inl, inr, arith, append-nil, append_assoc, length-append, if◌then◌else◌}
+use Rattle.std.proofs.Common.{◌≡◌, ◌≢◌, ℕ, ◌+◌, ◌≤◌, true, false, nat_eq, eq-eqb, ne_eqb, List, [], ◌∷◌, ◌++◌, length, drop, refl, sym, ap, ◌∙◌, subst, inl, inr, arith, append-nil, append_assoc, length-append, if◌then◌else◌}
 use Rattle.std.specs.Bool.{IsTrue}
 use Rattle.std.specs.List.{AllByRecursion, filter}
 use Rattle.msg_codec.specs.Control.{is_control}
@@ -23,7 +23,7 @@ use Rattle.world_core.specs.ControlRules.{is_free}
 use Rattle.world_core.proofs.Counts.StaysFree.{free_took, stays_free}
 use Rattle.world_core.proofs.Deeds.Honest.{honest_more}
 use Rattle.world_core.proofs.Pairs.Appended.{pair_put-took}
-use Rattle.world_core.proofs.Pairs.Numbers.{own_count-took, run_number-is, sent_number-is}
+use Rattle.world_core.proofs.Pairs.Numbers.{own_count-took, run_number-is, sent_number-is, sent_number-nil}
 use Rattle.world_core.proofs.Log.Appended.{batches_put-took, batches_taken-took, letters_taken-took}
 use Rattle.list_facts.specs.Prefix.{IsSuffix}
 use Rattle.list_facts.specs.Sublist.{IsSublist}
@@ -37,7 +37,7 @@ use Rattle.comm_rank.specs.Running.{CutFrom, HasRunAll, IsControl, IsFor, NotLoo
 use Rattle.comm_rank.specs.Turns.{Advanced, LookedAt}
 use Rattle.list_facts.proofs.Sublist.{sublist_append}
 use Rattle.comm_rank.proofs.Agrees.Served.{served_more, suffix_longer}
-use Rattle.comm_rank.proofs.Agrees.Arrived.{Brings, arrived-took, brings, for_all, forward_same, is_read, its_controls, none_of_others, own_all, ran_all, ran_is}
+use Rattle.comm_rank.proofs.Agrees.Arrived.{Brings, arrived-took, brings, for_all, forward_same, is_read, its_controls, none_of_others, own_number, ran_all, ran_is}
 use Rattle.comm_rank.proofs.Fold.Appended.{fold-append, handed-append, start_fold}
 use Rattle.comm_rank.proofs.Running.RunAll.{rest_for}
 use Rattle.comm_rank.proofs.Turns.Faults.{if_full}
@@ -194,7 +194,14 @@ module _ {C : Type 0} (apply : Applies C) (old new : Rank C) (log after : List E
           local_of old (log ++ Took from batch ∷ []) ≡ local_of new after → MayTurn new after
       by_run [] is ran none now =
           let P : ℕ → Type 0 = λ h. of_sender h (held_letters new) ≡ [] in
-          inr (subst P (sym same.here) (nil_from_length _ (omega (arith, ran.held.senders old.here, ap length none))))
+          inr (subst P (sym same.here) (nil_from_length _ (omega (
+            arith,
+            ran.held.senders old.here,
+            ap length none,
+            sent_number-nil old.here,
+            sent_number-is old.here (held_letters old),
+            sent_number-is old.here (held_letters new),
+          ))))
       by_run (l ∷ xs) is ran none now =
           inl (ap is_free (sym now) ∙ free_took (local_of old log) from batch (omega (arith, run_number-is old.here batch, ap length is)))
 
@@ -222,17 +229,7 @@ module _ {C : Type 0} (apply : Applies C) (old new : Rank C) (log after : List E
           sent_count =
               let put : own_count new.here after ≡ own_count here log = ap (λ h. own_count h after) same.here ∙ ap (own_count here) gained ∙ own_count-took here log from batch in
               let held : sent_number new.here (held_letters new) ≡ sent_number here (held_letters new) = ap (λ h. sent_number h (held_letters new)) same.here in
-              omega (
-                arith,
-                put,
-                held,
-                ran.sent_count,
-                agrees.sent_count,
-                ran.held.senders here,
-                ap length (own_all here given ran.lawful),
-                sent_number-is here (held_letters old),
-                sent_number-is here (held_letters new),
-              );
+              omega (arith, put, held, ran.sent_count, agrees.sent_count, ran.held.senders here, own_number here given ran.lawful);
           run_count = omega (arith, ran.run_count, agrees.run_count, ap length adv.ran, length-append (ran_at old log) run);
           contents =
               ran.contents ∙ ap (λ c. fold_from apply here n c run) agrees.contents ∙ sym (fold-append apply here n (start old.contents) (ran_at old log) run)
@@ -287,23 +284,6 @@ cut_before {C} from apply me log none fault is = subst (WasCutFrom from apply me
   cause = record { count_full = tt; gave = tt; never_stopped = tt };
 })
 
--- no batch was there
-pub took_none : {C : Type 0} (from : ℕ) (apply : Applies C) (me : Rank C) (log after : List Entry) → after ≡ log → me.waiting ≡ [] → TookFrom from apply me me log after 0
-took_none {C} from apply me log after is none =
-    let P : List Entry → Type 0 = λ xs. TookFrom from apply me me log xs 0 in
-    subst P (sym is) (record {
-      all = record {
-        taken = [];
-        gained = record { log = sym (append-nil log); takes = tt; in_order = λ i j d less within. absurd (omega (arith, less, within)) };
-        advanced = record { ran = sym (append-nil _); contents = refl; sent = λ to. sym (append-nil _); run_count = omega arith; sent_count = omega arith };
-        nothing_waits = none;
-        controls = sym (append-nil me.controls);
-        took_count = refl;
-      };
-      alone = tt;
-      one = omega arith;
-    })
-
 -- ---- what the post gave
 
 pub record Arrival {C : Type 0} (old : Rank C) (before state : PostState) (from : ℕ) (batch : List Letter) : Type 0 where
@@ -314,8 +294,8 @@ pub record Arrival {C : Type 0} (old : Rank C) (before state : PostState) (from 
   pub read : begins_with_control batch ≡ true → IsControl batch
 
 pub arrival : {C : Type 0} (apply : Applies C) (start : C → C) (old : Rank C) (there : ℕ) (before state : PostState) (from : ℕ) (batch : List Letter) → there ≡ old.here → SamePost there before state →
-    Belongs apply start old before → old.scheme ≡ Direct → from < old.layout.ranks → TookBatch there from batch before state → Arrival old before state from batch
-arrival {C} apply start old there before state from batch here same belongs direct sender took =
+    Belongs apply start old before → old.scheme ≡ Direct → TookBatch there from batch before state → Arrival old before state from batch
+arrival {C} apply start old there before state from batch here same belongs direct took =
     let P : ℕ → Type 0 = λ h. state.log h ≡ before.log h ++ Took from batch ∷ [] in
     let M : ℕ → Type 0 = λ h. IsModest (local_at state h) in
     let gained : P old.here = subst P here took.log in
@@ -324,9 +304,9 @@ arrival {C} apply start old there before state from batch here same belongs dire
     record {
       gained = gained;
       modest = at_old;
-      brings = brings (local_of old (before.log old.here)) from batch (omega (arith, sender)) direct (subst N gained at_old);
-      controls = its_controls (local_of old (before.log old.here)) from batch (omega (arith, sender)) direct (subst N gained at_old);
-      read = is_read (local_of old (before.log old.here)) from batch (omega (arith, sender)) direct (subst N gained at_old);
+      brings = brings (local_of old (before.log old.here)) from batch direct (subst N gained at_old);
+      controls = its_controls (local_of old (before.log old.here)) from batch direct (subst N gained at_old);
+      read = is_read (local_of old (before.log old.here)) from batch direct (subst N gained at_old);
     }
 
 pub few_run : {C : Type 0} (apply : Applies C) (start : C → C) (old : Rank C) (before state : PostState) (from : ℕ) (batch : List Letter) → Arrival old before state from batch →

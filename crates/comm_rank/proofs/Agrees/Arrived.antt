@@ -1,5 +1,5 @@
 -- What a log has after it gained a take, and what ran then.
-use Rattle.std.proofs.Common.{◌≡◌, ◌≢◌, ℕ, suc, ◌-◌, ◌<◌, Bool, true, false, ◌&&◌, ◌||◌, not, is_some, Some, None, nat_eq, eqb-true, eq-eqb, List, [], ◌∷◌, ◌++◌, length, take, drop, refl, sym, ap, ◌∙◌, subst, inl, inr, arith, append-nil, length-append, if◌then◌else◌}
+use Rattle.std.proofs.Common.{◌≡◌, ◌≢◌, ℕ, ◌-◌, Bool, true, false, ◌&&◌, ◌||◌, not, is_some, Some, None, nat_eq, eqb-true, eq-eqb, List, [], ◌∷◌, ◌++◌, length, take, drop, refl, sym, ap, ◌∙◌, subst, inl, inr, arith, append-nil, length-append, if◌then◌else◌}
 use Rattle.std.specs.Bool.{IsTrue}
 use Rattle.std.specs.List.{AllByRecursion, filter, list_any}
 use Rattle.std.proofs.Math.Seq.{take-append_seam}
@@ -8,31 +8,25 @@ use Rattle.std.proofs.lemmas.List.Elements.{filter-append}
 use Rattle.msg_codec.specs.Control.{control_of_letter, is_control, is_count, is_total, round_of, sent_of, run_of}
 use Rattle.msg_codec.specs.declared.control.Control.TheVariants.{Count, Total}
 use Rattle.msg_codec.specs.declared.letter.Letter.{Letter}
-use Rattle.ygm_route.specs.declared.scheme.Scheme.{Scheme}
 use Rattle.ygm_route.specs.declared.scheme.Scheme.TheVariants.{Direct}
-use Rattle.ygm_route.specs.Layout.{Shape}
-use Rattle.ygm_route.specs.Hop.{hop}
-use Rattle.ygm_route.specs.Path.{crosses, path, stops}
-use Rattle.ygm_route.proofs.Hop.Cases.{hop-direct}
-use Rattle.ygm_route.proofs.Path.FirstOrLater.{link_of_two}
 use Rattle.world_core.specs.declared.entry.Entry.{Entry}
 use Rattle.world_core.specs.declared.entry.Entry.TheVariants.{Took}
 use Rattle.world_core.specs.ControlRules.{wrong_control}
 use Rattle.world_core.specs.Local.{Local, to_forward, is_rank, local_rank}
 use Rattle.world_core.specs.Log.{letters_taken}
 use Rattle.world_core.specs.Modest.{IsLawful, IsModest}
-use Rattle.world_core.specs.Pairs.{arrived, for_rank, is_data, is_of_pair, of_pair, of_sender, pair_put, pair_taken}
-use Rattle.world_core.specs.Sound.{IsOnPath}
+use Rattle.world_core.specs.Pairs.{arrived, for_rank, is_data, is_of_pair, of_pair, pair_put, pair_taken, sent_number}
 use Rattle.world_core.proofs.Pairs.Appended.{pair_put-took, pair_taken-took}
+use Rattle.world_core.proofs.Pairs.Numbers.{sent_number-append, sent_number-nil, sent_number-one}
 use Rattle.world_core.proofs.Log.Appended.{letters_taken-took}
 use Rattle.world_core.proofs.Deeds.TwoKinds.{control_not_data, data_not_count, data_not_total}
 use Rattle.world_core.proofs.Modest.Lawful.{batch_kind, lawful_batch}
 use Rattle.list_facts.proofs.Elements.{all_second, all_weaker, both_of}
 use Rattle.list_facts.proofs.Filters.{filter_none}
 use Rattle.list_facts.proofs.Tests.{and_first, and_second, or_false_first}
-use Rattle.world_core.proofs.Log.ByLink.{all_taken}
 use Rattle.comm_rank.specs.Rank.{Rank, ran_at}
 use Rattle.comm_rank.specs.Running.{IsControl, IsFor, IsOf, begins_with_control, for_handlers}
+use Rattle.comm_rank.proofs.Agrees.Direct.{taken_here}
 
 -- ---- letters for a rank, and from it
 
@@ -43,12 +37,13 @@ for_all here (x ∷ xs) h =
     let to : nat_eq x.to here ≡ true = eq-eqb x.to here h.0.destination in
     rw (tag, to) (ap (λ ys. x ∷ ys) (for_all here xs h.1))
 
-pub own_all : (here : ℕ) (xs : List Letter) → AllByRecursion (IsOf here) xs → of_sender here xs ≡ xs
-own_all here [] h = refl
-own_all here (x ∷ xs) h =
-    let tag : is_data x ≡ true = h.0.tag in
-    let from : nat_eq x.from here ≡ true = eq-eqb x.from here h.0.sender in
-    rw (tag, from) (ap (λ ys. x ∷ ys) (own_all here xs h.1))
+-- each data letter of a rank counts for it
+pub own_one : (here : ℕ) (l : Letter) → IsTrue (is_data l) → l.from ≡ here → sent_number here (l ∷ []) ≡ 1
+own_one here l tagged mine = let e : nat_eq l.from here ≡ true = eq-eqb _ _ mine in sent_number-one here l true (rw (tagged, e) refl)
+
+pub own_number : (here : ℕ) (xs : List Letter) → AllByRecursion (IsOf here) xs → sent_number here xs ≡ length xs
+own_number here [] h = sent_number-nil here
+own_number here (x ∷ xs) h = omega (arith, sent_number-append here (x ∷ []) xs, own_one here x h.0.tag h.0.sender, own_number here xs h.1)
 
 pub none_of_others : (here from to : ℕ) (xs : List Letter) → from ≢ here → AllByRecursion (IsOf here) xs → of_pair from to xs ≡ []
 none_of_others here from to xs ne all =
@@ -92,32 +87,6 @@ forward_same me from batch none s d =
     ap (λ xs. drop (length xs) (pair_taken s d (me.log ++ Took from batch ∷ []))) (pair_put-took s d me.log from batch)
     ∙ ap (drop (length (pair_put s d me.log))) (pair_taken-took s d me.log from batch ∙ ap (λ xs. pair_taken s d me.log ++ xs) (none s d apart) ∙ append-nil (pair_taken s d me.log)))
 
--- ---- letters go straight to their destination
-
-path_direct : (layout : Shape) (from to : ℕ) (most : ℕ) → stops layout Direct (suc most) from to ≡ to ∷ []
-path_direct layout from to most =
-    let straight : hop layout Direct from to ≡ to = hop-direct layout from to in
-    let same : nat_eq to to ≡ true = eq-eqb to to refl in
-    rw (straight, same) refl
-
-pub crossed_direct : (layout : Shape) (s d a b : ℕ) → 0 < layout.ranks → IsTrue (crosses (path layout Direct s d) a b) → d ≡ b
-unfolding path
-crossed_direct layout s d a b some h =
-    let P : ℕ → Type 0 = λ n. IsTrue (crosses (s ∷ stops layout Direct n s d) a b) in
-    let size : layout.ranks ≡ suc (layout.ranks - 1) = omega (arith, some) in
-    let at : P (suc (layout.ranks - 1)) = subst P size h in
-    let Q : List ℕ → Type 0 = λ xs. IsTrue (crosses (s ∷ xs) a b) in
-    (link_of_two a b s d (subst Q (path_direct layout s d (layout.ranks - 1)) at)).1
-
-pub crossed_from : (layout : Shape) (s d a b : ℕ) → 0 < layout.ranks → IsTrue (crosses (path layout Direct s d) a b) → s ≡ a
-unfolding path
-crossed_from layout s d a b some h =
-    let P : ℕ → Type 0 = λ n. IsTrue (crosses (s ∷ stops layout Direct n s d) a b) in
-    let size : layout.ranks ≡ suc (layout.ranks - 1) = omega (arith, some) in
-    let at : P (suc (layout.ranks - 1)) = subst P size h in
-    let Q : List ℕ → Type 0 = λ xs. IsTrue (crosses (s ∷ xs) a b) in
-    (link_of_two a b s d (subst Q (path_direct layout s d (layout.ranks - 1)) at)).0
-
 -- ---- what a modest log took last
 
 data_first : (letters : List Letter) → AllByRecursion (λ l. is_data l ≡ true) letters → for_handlers letters ≡ letters
@@ -154,7 +123,7 @@ read_right me to l control right = by_kind (is_count l) (is_total l) (nat_eq l.t
     by_kind false true to_first false mine first true there kind right = absurd cc
     by_kind false true to_first false mine first false there kind right = absurd cc
 
-module _ (me : Local) (from : ℕ) (batch : List Letter) (some : 0 < me.layout.ranks) (direct : me.scheme ≡ Direct) (modest : IsModest (record me { log = me.log ++ Took from batch ∷ [] })) where
+module _ (me : Local) (from : ℕ) (batch : List Letter) (direct : me.scheme ≡ Direct) (modest : IsModest (record me { log = me.log ++ Took from batch ∷ [] })) where
   abbrev now : Local
   now = record me { log = me.log ++ Took from batch ∷ [] }
 
@@ -162,11 +131,7 @@ module _ (me : Local) (from : ℕ) (batch : List Letter) (some : 0 < me.layout.r
   straight : AllByRecursion (λ (l : Letter). IsTrue (is_data l) → l.to ≡ me.here) batch
   straight =
       let R : Letter → Type 0 = λ l. IsTrue (is_data l) → l.to ≡ me.here in
-      let all : AllByRecursion R (letters_taken now.log) =
-      all_taken R now.log (λ rank. all_weaker (IsOnPath me.layout me.scheme rank me.here) R _
-      (λ l on tag. crossed_direct me.layout l.from l.to rank me.here some (let S : Scheme → Type 0 = λ scheme. IsTrue (crosses (path me.layout scheme l.from l.to) rank me.here) in subst S direct (on tag)))
-      (modest.on_path rank)) in
-      all_second R (letters_taken me.log) batch (subst (AllByRecursion R) (letters_taken-took me.log from batch) all)
+      all_second R (letters_taken me.log) batch (subst (AllByRecursion R) (letters_taken-took me.log from batch) (taken_here now direct modest))
 
   pub brings : Brings me.here batch (for_handlers batch)
   brings =

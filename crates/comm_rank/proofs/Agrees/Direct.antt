@@ -1,7 +1,8 @@
 -- Letters that go straight to their destinations: a rank takes letters for itself alone, and has nothing to forward.
-use Rattle.std.proofs.Common.{◌≡◌, ◌≢◌, ℕ, zero, suc, Bool, true, false, not, ◌&&◌, ◌||◌, nat_eq, eq-eqb, eqb-true, List, [], ◌∷◌, length, drop, refl, sym, ap, ◌∙◌, subst, inl, inr, if◌then◌else◌}
+use Rattle.std.proofs.Common.{◌≡◌, ◌≢◌, ℕ, zero, suc, Bool, true, false, not, ◌&&◌, nat_eq, eq-eqb, eqb-true, List, [], ◌∷◌, length, drop, refl, sym, ap, ◌∙◌, subst, inl, inr, if◌then◌else◌}
 use Rattle.std.specs.Bool.{IsTrue}
 use Rattle.std.specs.List.{AllByRecursion, list_any}
+use Rattle.std.proofs.Math.Bool.{or-false}
 use Rattle.std.proofs.lemmas.Bool.{cases_eq, false_from_ne_true}
 use Rattle.msg_codec.specs.declared.letter.Letter.{Letter}
 use Rattle.ygm_route.specs.declared.scheme.Scheme.{Scheme}
@@ -24,11 +25,7 @@ one_link : (next d s a b : ℕ) (more : List ℕ) → next ≡ d → list_any (�
 one_link next d s a b more same h = by_test (nat_eq next d) (eq-eqb next d same) h
   where
     by_test : (t : Bool) → t ≡ true → list_any (λ (link : ℕ × ℕ). nat_eq link.0 a && nat_eq link.1 b) (links_from s (next ∷ (if t then [] else more))) ≡ true → b ≡ d
-    by_test true e h = sym (eqb-true next b (and_second (nat_eq s a) (nat_eq next b) (only _ h))) ∙ same
-      where
-        only : (x : Bool) → (x || false) ≡ true → x ≡ true
-        only true k = refl
-        only false k = k
+    by_test true e h = sym (eqb-true next b (and_second (nat_eq s a) (nat_eq next b) (sym (or-false _) ∙ h))) ∙ same
     by_test false e h = absurd cc
 
 pub direct_link : (layout : Shape) (s d a b : ℕ) → IsTrue (crosses (path layout Direct s d) a b) → b ≡ d

@@ -8,6 +8,7 @@ use Rattle.msg_codec.specs.declared.letter.Letter.{Letter}
 use Rattle.world_core.specs.declared.entry.Entry.{Entry}
 use Rattle.world_core.specs.Log.{batches_put, batches_taken, put_to}
 use Rattle.world_core.specs.Post.{SameFulls, PostState, is_full_in, link_in}
+use Rattle.comm_rank.specs.Held.{NoneClosed}
 use Rattle.comm_rank.specs.Moves.{Moved, PutUntil}
 use Rattle.comm_rank.specs.Store.{OthersUnchanged}
 use Rattle.comm_rank.specs.Turns.{FirstFull, NoneOrFull}
@@ -52,6 +53,11 @@ abbrev pub Below : ℕ → Option ℕ → Type 0
 Below n None = Unit {0}
 Below n (Some rank) = rank < n
 
+-- a link was full, this one or one before
+pub some_full : (was : Option ℕ) (to : ℕ) → option_or was (Some to) ≡ None → ⊥
+some_full None to is = absurd cc
+some_full (Some rank) to is = absurd cc
+
 module _ (here to : ℕ) (a b : List (List Letter)) (old mid new : PostState) (placed : List Entry) (serves : (rank : ℕ) → mid.serves rank ≡ old.serves rank)
     (moved : Moved here a b mid new placed) (others : OthersUnchanged to a b) (later : (d : ℕ) → to ≤ d → mid.fulls d ≡ old.fulls d) where
   -- the counts of the other ranks are unchanged
@@ -79,6 +85,13 @@ module _ (here to : ℕ) (a b : List (List Letter)) (old mid new : PostState) (p
         full = λ s. until.0.full (serves to ∙ s);
       })
       at_last false until = inl until.0
+
+  -- where no link was full so far, no closed batch is held for the ranks so far
+  pub none_next : PutUntil false here to b mid new → ((d : ℕ) → d < to → NoneClosed a d) → (d : ℕ) → d < to + 1 → NoneClosed b d
+  none_next until none d lt = elim (cases_eq d to) [
+    | inl e ↦ subst (NoneClosed b) (sym e) until.0
+    | inr other ↦ others.others d other ∙ none d (omega (arith, lt, other))
+  ]
 
   pub later_next : (full : Bool) → PutUntil full here to b mid new → (d : ℕ) → to + 1 ≤ d → new.fulls d ≡ old.fulls d
   later_next full until d le = other_fulls full until d (λ e. absurd (omega (arith, e))) ∙ later d (omega arith)

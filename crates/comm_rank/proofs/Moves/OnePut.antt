@@ -2,6 +2,7 @@
 use Rattle.std.proofs.Common.{◌≡◌, ◌≢◌, ℕ, ◌+◌, ◌<◌, Bool, true, false, not, ◌||◌, ◌&&◌, nat_eq, nat_lt, lt-ltb, eq-eqb, None, Err, List, [], ◌∷◌, ◌++◌, length, set, refl, sym, ap, ◌∙◌, subst, append-nil, append_assoc, arith, inl, inr}
 use Rattle.std.specs.Bool.{IsTrue}
 use Rattle.std.specs.List.{AllByRecursion}
+use Rattle.std.proofs.Math.Bool.{and-false, or-false}
 use Rattle.std.proofs.lemmas.Bool.{cases_eq}
 use Rattle.std.proofs.lemmas.List.{set-set, set-get_or, nil_from_length}
 use Rattle.msg_codec.specs.Control.{is_count, is_total}
@@ -16,7 +17,7 @@ use Rattle.world_core.specs.ControlRules.{is_free, sent_while_counted, wrong_con
 use Rattle.world_core.specs.Limits.{most_letters}
 use Rattle.world_core.specs.Local.{Local, having_put}
 use Rattle.world_core.specs.Log.{IsPut, letters_of}
-use Rattle.world_core.specs.Pairs.{is_data, is_of_pair, of_pair, of_sender, own_count, pair_put, sent, sent_number}
+use Rattle.world_core.specs.Pairs.{is_data, is_of_pair, of_pair, own_count, pair_put, sent, sent_number}
 use Rattle.world_core.specs.Post.{CountsNeverFall, FullsRise, IfFull, IfNoMemory, PutKeeps, SameFulls, SamePost, PostState, local_at}
 use Rattle.world_core.specs.declared.post.PutBack.{PutBack}
 use Rattle.world_core.specs.declared.post.PutBack.TheVariants.{Full, NoMemory}
@@ -32,13 +33,14 @@ use Rattle.world_core.proofs.Pairs.Numbers.{own_count-put, sent_number-is}
 use Rattle.list_facts.proofs.Elements.{all_append}
 use Rattle.comm_rank.specs.Agrees.{MaySend}
 use Rattle.comm_rank.proofs.Agrees.AfterPuts.{data_put}
+use Rattle.comm_rank.proofs.Agrees.Arrived.{own_one}
 use Rattle.comm_rank.proofs.Rank.Same.{same_then}
 use Rattle.world_core.proofs.Posts.CountsNeverFall.{never_fall_refl, never_fall_trans}
 use Rattle.world_core.proofs.Deeds.EachLetter.{hop_right, held_own}
 use Rattle.comm_rank.specs.Held.{NoneClosed, held_for}
-use Rattle.comm_rank.specs.Moves.{MayPut, Moved, MoveKeeps, PutsOne, put_count}
+use Rattle.comm_rank.specs.Moves.{MayPut, Moved, PutsOne, put_count}
 use Rattle.comm_rank.specs.Store.{IsHeldFor, Loses, OthersUnchanged}
-use Rattle.comm_rank.specs.Turns.{MetFull}
+use Rattle.comm_rank.specs.Turns.{MetFull, PutsKeep}
 
 -- ---- it breaks no rule
 
@@ -49,17 +51,9 @@ ranks_hold true false c d _ h _ _ = absurd cc
 ranks_hold true true false d _ _ h _ = absurd cc
 ranks_hold true true true false _ _ _ h = absurd cc
 
-and_false : (b : Bool) → (b && false) ≡ false
-and_false true = refl
-and_false false = refl
-
-or_nothing : (b : Bool) → b ≡ false → (b || false) ≡ false
-or_nothing true h = h
-or_nothing false h = h
-
 -- a free rank may put an own letter
 free_to_send : (me : Local) (to : ℕ) (l : Letter) → is_free me ≡ true → sent_while_counted (having_put me to []) to l ≡ false
-free_to_send me to l free = sent_while_counted-put me to [] refl l ∙ rw free (and_false (is_data l && nat_eq l.from me.here))
+free_to_send me to l free = sent_while_counted-put me to [] refl l ∙ rw free (and-false (is_data l && nat_eq l.from me.here))
 
 pub unbroken_put : (me : Local) (to : ℕ) (l : Letter) → me.here < me.layout.ranks → to < me.layout.ranks → me.scheme ≡ Direct →
     l.to ≡ to → l.from ≡ me.here → IsTrue (is_data l) → own_count me.here me.log < most_letters → is_free me ≡ true →
@@ -77,12 +71,12 @@ unbroken_put me to l here_within to_within direct is_to is_from tagged few may =
     let room : nat_lt (own_count me.here start.log) most_letters ≡ true = lt-ltb _ _ (omega (arith, few, own_count-empty me.here me.log to)) in
     let one : Deed = Puts to (l ∷ []) in
     let ranks : no_such_rank me one ≡ false = ranks_hold _ _ _ _ (lt-ltb _ _ here_within) (lt-ltb _ _ to_within) (lt-ltb _ _ to_l) (lt-ltb _ _ from_l) in
-    let tag : some_letter bad_tag me one ≡ false = or_nothing (bad_tag start to l) (rw tagged refl) in
+    let tag : some_letter bad_tag me one ≡ false = or-false (bad_tag start to l) ∙ (rw tagged refl) in
     let unmixed : mixed_control me one ≡ false = rw (count, total) refl in
-    let hops : some_letter wrong_hop me one ≡ false = or_nothing (wrong_hop start to l) (hop_right start to to l tagged leads refl) in
-    let held : some_letter not_held me one ≡ false = or_nothing (not_held start to l) (held_own start to l tagged is_from) in
-    let not_many : some_letter too_many_sent me one ≡ false = or_nothing (too_many_sent start to l) (rw room (and_false (is_data l && nat_eq l.from me.here))) in
-    let free : some_letter sent_while_counted me one ≡ false = or_nothing (sent_while_counted start to l) (free_to_send me to l may) in
+    let hops : some_letter wrong_hop me one ≡ false = or-false (wrong_hop start to l) ∙ (hop_right start to to l tagged leads refl) in
+    let held : some_letter not_held me one ≡ false = or-false (not_held start to l) ∙ (held_own start to l tagged is_from) in
+    let not_many : some_letter too_many_sent me one ≡ false = or-false (too_many_sent start to l) ∙ (rw room (and-false (is_data l && nat_eq l.from me.here))) in
+    let free : some_letter sent_while_counted me one ≡ false = or-false (sent_while_counted start to l) ∙ (free_to_send me to l may) in
     let control : some_letter wrong_control me one ≡ false = rw (count, total) refl in
     let early : some_letter count_early me one ≡ false = rw count refl in
     let unforwarded : some_letter count_unforwarded me one ≡ false = rw count refl in
@@ -107,9 +101,6 @@ own_letter here before after l alone loses tagged =
           absurd cc
     ]
 
-one_of_sender : (here : ℕ) (l : Letter) → IsTrue (is_data l) → l.from ≡ here → of_sender here (l ∷ []) ≡ l ∷ []
-one_of_sender here l tagged is_from = let e : nat_eq l.from here ≡ true = eq-eqb _ _ is_from in rw (tagged, e) refl
-
 -- where a letter of its own is held, it is free
 free_with : (before after : List (List Letter)) (me : Local) → sent_number me.here (letters_of before) ≡ 1 + sent_number me.here (letters_of after) → MaySend me before → is_free me ≡ true
 free_with before after me count may = elim may [
@@ -123,14 +114,7 @@ may_put_one here to n before after state batch may within all one loses =
     let l = one.0 in
     let lost : Loses before after (l ∷ []) = subst (Loses before after) one.1 loses in
     let is_from : l.from ≡ here = own_letter here before after l may.own_alone lost one.2.tag in
-    let count : sent_number here (letters_of before) ≡ 1 + sent_number here (letters_of after) =
-    omega (
-      arith,
-      lost.senders here,
-      ap length (one_of_sender here l one.2.tag is_from),
-      sent_number-is here (letters_of before),
-      sent_number-is here (letters_of after),
-    ) in
+    let count : sent_number here (letters_of before) ≡ 1 + sent_number here (letters_of after) = omega (arith, lost.senders here, own_one here l one.2.tag is_from) in
     let P : List Letter → Type 0 = λ b. first_broken (local_at state here) (Puts to b) ≡ None in
     subst P (sym one.1) (unbroken_put (local_at state here) to l may.within (omega (arith, may.all)) may.direct one.2.destination is_from one.2.tag (omega (arith, may.few, count))
     (free_with before after (local_at state here) count may.may_send))
@@ -141,8 +125,8 @@ one_tagged to n batch one = subst (AllByRecursion (λ l. IsTrue (is_data l))) (s
 
 -- ---- what moves
 
-pub move_keeps : (here : ℕ) (old new : PostState) → PutKeeps here old new → CountsNeverFall old new → MoveKeeps here old new
-move_keeps here old new keeps counts = record { same = keeps.same; stops = keeps.stops; misses = keeps.misses; halts = keeps.halts; counts = counts }
+pub puts_keep : (here : ℕ) (old new : PostState) → PutKeeps here old new → CountsNeverFall old new → PutsKeep here old new
+puts_keep here old new keeps counts = record { same = keeps.same; stops = keeps.stops; misses = keeps.misses; halts = keeps.halts; counts = counts }
 
 same_put : (a b : ℕ) (x y : List Letter) → (let e : Entry = Put a x in e) ≡ Put b y → (b ≡ a) × (y ≡ x)
 same_put a b x y h = (cc, cc)
@@ -165,11 +149,11 @@ may_still here to batch before after old new tagged loses log same may =
     let now : local_at new here ≡ having_put (local_at old here) to batch = (let a = same.layout in let b = same.scheme in cc) in
     elim may [
       | inl free ↦ inl (ap is_free now ∙ stays_free (local_at old here) (Put to batch) (data_uncounted batch tagged) free)
-      | inr none ↦ inr (nil_from_length _ (omega (arith, loses.senders here, ap length none)))
+      | inr none ↦ inr (nil_from_length _ (omega (arith, loses.senders here, ap length none, sent_number-is here (letters_of before), sent_number-is here (letters_of after))))
     ]
 
 pub moved_one : (here to : ℕ) (batch : List Letter) (before after : List (List Letter)) (old new : PostState) → AllByRecursion (λ l. IsTrue (is_data l)) batch → first_broken (local_at old here) (Puts to batch) ≡ None →
-    Loses before after batch → length after ≡ length before → new.log here ≡ old.log here ++ Put to batch ∷ [] → MoveKeeps here old new →
+    Loses before after batch → length after ≡ length before → new.log here ≡ old.log here ++ Put to batch ∷ [] → PutsKeep here old new →
     Moved here before after old new (Put to batch ∷ [])
 moved_one here to batch before after old new tagged ok loses all log keeps =
     record {
@@ -183,16 +167,7 @@ moved_one here to batch before after old new tagged ok loses all log keeps =
           ∙ ap (λ xs. xs ++ of_pair here d (letters_of after)) (pair_put-put here d (old.log here) to batch)
           ∙ append_assoc (pair_put here d (old.log here)) (of_pair here d batch) (of_pair here d (letters_of after))
           ∙ ap (λ xs. pair_put here d (old.log here) ++ xs) (sym (loses.pairs here d));
-      count_unchanged =
-          omega (
-            arith,
-            ap (own_count here) log,
-            own_count-put here (old.log here) to batch,
-            loses.senders here,
-            sent_number-is here batch,
-            sent_number-is here (letters_of before),
-            sent_number-is here (letters_of after),
-          );
+      count_unchanged = omega (arith, ap (own_count here) log, own_count-put here (old.log here) to batch, loses.senders here);
       none_more = λ f t none. rest_none (of_pair f t batch) (of_pair f t (letters_of after)) (sym (loses.pairs f t) ∙ none);
       all = all;
       keeps = keeps;
@@ -202,7 +177,7 @@ moved_one here to batch before after old new tagged ok loses all log keeps =
     rest_none [] ys h = h
     rest_none (x ∷ xs) ys h = absurd cc
 
-pub moved_none : (here : ℕ) (before after : List (List Letter)) (old new : PostState) → after ≡ before → new.log here ≡ old.log here → MoveKeeps here old new →
+pub moved_none : (here : ℕ) (before after : List (List Letter)) (old new : PostState) → after ≡ before → new.log here ≡ old.log here → PutsKeep here old new →
     Moved here before after old new []
 moved_none here before after old new held log keeps = record {
   log = log ∙ sym (append-nil _);
@@ -226,7 +201,7 @@ given_back to old mid now rest batch back popped first same again =
 
 -- ---- one after another
 
-pub keeps_then : (here : ℕ) (a b c : PostState) → MoveKeeps here a b → MoveKeeps here b c → MoveKeeps here a c
+pub keeps_then : (here : ℕ) (a b c : PostState) → PutsKeep here a b → PutsKeep here b c → PutsKeep here a c
 keeps_then here a b c first later = record {
   same = same_then here here a b c refl first.same later.same;
   stops = λ rank. later.stops rank ∙ first.stops rank;
@@ -249,7 +224,7 @@ moved_then here a b c t u v first later m n = record {
   keeps = keeps_then here t u v m.keeps n.keeps;
 }
 
-pub keeps_none : (here : ℕ) (t : PostState) → MoveKeeps here t t
+pub keeps_none : (here : ℕ) (t : PostState) → PutsKeep here t t
 keeps_none here t = record {
   same = record { layout = refl; scheme = refl; ring = refl; batches = refl; serves = λ rank. refl; other_logs = λ rank other. refl };
   stops = λ rank. refl;

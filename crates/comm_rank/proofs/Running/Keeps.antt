@@ -3,8 +3,8 @@ use Rattle.std.proofs.Common.{refl, ◌∙◌}
 use Rattle.world_core.specs.Post.{PostState}
 use Rattle.world_core.specs.Rules.{IsHonest}
 use Rattle.world_core.proofs.Posts.CountsNeverFall.{never_fall_refl, never_fall_trans}
-use Rattle.comm_rank.specs.Moves.{MoveKeeps}
 use Rattle.comm_rank.specs.Rank.{IsSameRank, Rank, local_of}
+use Rattle.comm_rank.specs.Turns.{PutsKeep}
 use Rattle.comm_rank.specs.Running.{TakesKeep, WorkKeeps}
 use Rattle.comm_rank.proofs.Rank.Same.{same_none, same_then}
 use Rattle.comm_rank.proofs.Agrees.AfterTake.{honest_on}
@@ -26,7 +26,7 @@ module _ {C : Type 0} (old mid : Rank C) (same : IsSameRank old mid) (a b c : Po
   }
 
   -- takes, followed by puts
-  pub puts_then : TakesKeep old a b → MoveKeeps mid.here b c → (IsHonest (local_of mid (b.log mid.here)) → IsHonest (local_of mid (c.log mid.here))) → WorkKeeps old a c
+  pub puts_then : TakesKeep old a b → PutsKeep mid.here b c → (IsHonest (local_of mid (b.log mid.here)) → IsHonest (local_of mid (c.log mid.here))) → WorkKeeps old a c
   puts_then first second honest = work_then first.work (record {
     same = second.same;
     honest = honest;

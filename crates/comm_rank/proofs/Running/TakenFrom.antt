@@ -4,19 +4,23 @@ use Rattle.std.specs.List.{AllByRecursion, filter}
 use Rattle.msg_codec.specs.Control.{is_control}
 use Rattle.msg_codec.specs.declared.letter.Letter.{Letter}
 use Rattle.ygm_route.specs.declared.scheme.Scheme.TheVariants.{Direct}
+use Rattle.world_core.specs.declared.entry.Entry.{Entry}
 use Rattle.world_core.specs.Limits.{most_arrived}
 use Rattle.world_core.specs.Post.{CountsNeverFall, TakeKeeps, PostState, TookBatch, TookNone}
 use Rattle.world_core.specs.Rules.{IsHonest}
 use Rattle.world_core.proofs.Posts.CountsNeverFall.{after_took, after_took_none}
+use Rattle.list_facts.proofs.Elements.{all_weaker}
 use Rattle.comm_rank.specs.declared.fault.CommFault.{CommFault}
 use Rattle.comm_rank.specs.Agrees.{Agrees, Belongs, MayTurn}
 use Rattle.comm_rank.specs.Fold.{Applies}
 use Rattle.comm_rank.specs.Rank.{IsSameRank, Rank, local_of}
-use Rattle.comm_rank.specs.Running.{HasRunAll, HasTakenFrom, IsControl, IsFor, StuckIn, TakesKeep, WasCutFrom, begins_with_control, for_handlers}
+use Rattle.comm_rank.specs.Running.{HasRunAll, HasTakenFrom, IsControl, IsFor, StuckIn, TakesKeep, TookBelow, TookFrom, WasCutFrom, begins_with_control, for_handlers}
+use Rattle.comm_rank.specs.Turns.{other_end}
 use Rattle.comm_rank.proofs.Agrees.Arrived.{Brings}
 use Rattle.comm_rank.proofs.Running.RunAll.{ran_none}
 use Rattle.comm_rank.proofs.Rank.Same.{belongs_still}
-use Rattle.comm_rank.proofs.Agrees.AfterTake.{Arrival, agrees_now, arrival, cut_from, few_run, honest_took, link_unchanged, looked_none, may_turn_now, not_looked_none, same_log, taken_here, taken_other, took_from, took_none}
+use Rattle.comm_rank.proofs.Agrees.AfterTake.{Arrival, agrees_now, arrival, cut_from, few_run, honest_took, link_unchanged, looked_none, may_turn_now, not_looked_none, same_log, taken_here, taken_other, took_from}
+use Rattle.comm_rank.proofs.Running.TookBelow.{took_nothing}
 
 -- the letters of a batch for handlers, by its first letter
 pub all_for_handlers : (batch : List Letter) (control : Bool) → control ≡ begins_with_control batch → control ≡ false → for_handlers batch ≡ batch
@@ -43,9 +47,20 @@ module _ {C : Type 0} (apply : Applies C) (start : C → C) (old : Rank C) (ther
         let P : List _ → Type 0 = λ xs. IsHonest (local_of old xs) in
         takes_keep (after_took_none there from before after keeps none) (λ h. subst P (sym log_same) h)
 
+    no_batch : TookFrom from apply old old (before.log old.here) (after.log old.here) 0
+    no_batch =
+        let log = before.log old.here in
+        let none : TookBelow 0 apply old old log log 0 = took_nothing apply old log 0 belongs.agrees.nothing_waits in
+        let P : List Entry → Type 0 = λ xs. TookFrom from apply old old log xs 0 in
+        subst P (sym log_same) (record {
+          all = none.all;
+          alone = all_weaker (λ entry. other_end entry < 0) (λ entry. other_end entry ≡ from) none.all.taken (λ entry below. absurd (omega (arith, below))) none.below;
+          one = omega arith;
+        })
+
     pub none_taken : HasTakenFrom from apply start old old before after 0
     none_taken = record {
-      taken = took_none from apply old (before.log old.here) (after.log old.here) log_same belongs.agrees.nothing_waits;
+      taken = no_batch;
       belongs = belongs_still apply start old there before after keeps.same log_same belongs;
       may_turn = subst (λ log. MayTurn old log) (sym log_same) may;
       looked = looked_none there old.here from before after e none.misses none.sees_none;
@@ -54,9 +69,9 @@ module _ {C : Type 0} (apply : Applies C) (start : C → C) (old : Rank C) (ther
 
   -- ---- a batch was there
 
-  module _ (batch : List Letter) (took : TookBatch there from batch before after) (direct : old.scheme ≡ Direct) (sender : from < old.layout.ranks) where
+  module _ (batch : List Letter) (took : TookBatch there from batch before after) (direct : old.scheme ≡ Direct) where
     arrived : Arrival old before after from batch
-    arrived = arrival apply start old there before after from batch e keeps.same belongs direct sender took
+    arrived = arrival apply start old there before after from batch e keeps.same belongs direct took
 
     pub batch_keeps : TakesKeep old before after
     batch_keeps = takes_keep (after_took there from batch before after keeps took) (honest_took old (before.log old.here) (after.log old.here) from batch arrived.gained)

@@ -1,5 +1,5 @@
 -- What a sound world of straight links says of one link.
-use Rattle.std.proofs.Common.{◌≡◌, ℕ, zero, suc, ◌+◌, ◌<◌, ◌≤◌, Bool, true, false, nat_eq, eq-eqb, Some, None, List, [], ◌∷◌, ◌++◌, length, drop, take, slice_get, refl, sym, ap, ◌∙◌, subst, arith, append-nil, length-append, if◌then◌else◌}
+use Rattle.std.proofs.Common.{◌≡◌, ℕ, zero, suc, ◌+◌, ◌<◌, ◌≤◌, Bool, true, false, nat_eq, eq-eqb, Some, None, List, [], ◌∷◌, ◌++◌, ◌-◌, length, drop, take, slice_get, refl, sym, ap, ◌∙◌, subst, arith, append-nil, length-append, if◌then◌else◌}
 use Rattle.std.specs.Bool.{IsTrue}
 use Rattle.std.specs.List.{AllByRecursion, cons_option}
 use Rattle.std.proofs.Math.Seq.{drop-append_seam}
@@ -9,7 +9,11 @@ use Rattle.list_facts.proofs.Filters.{filter_all}
 use Rattle.msg_codec.specs.declared.letter.Letter.{Letter}
 use Rattle.ygm_route.specs.declared.scheme.Scheme.{Scheme}
 use Rattle.ygm_route.specs.declared.scheme.Scheme.TheVariants.{Direct}
-use Rattle.ygm_route.specs.Path.{crosses, path}
+use Rattle.ygm_route.specs.Hop.{hop}
+use Rattle.ygm_route.specs.Layout.{Shape}
+use Rattle.ygm_route.specs.Path.{crosses, path, stops}
+use Rattle.ygm_route.proofs.Hop.Cases.{hop-direct}
+use Rattle.ygm_route.proofs.Path.FirstOrLater.{link_of_two}
 use Rattle.world_core.specs.declared.entry.Entry.{Entry}
 use Rattle.world_core.specs.declared.entry.Entry.TheVariants.{Put, Took}
 use Rattle.world_core.specs.Log.{batches_put, batches_taken, letters_of, letters_put, took_from}
@@ -24,7 +28,7 @@ use Rattle.list_facts.proofs.Prefix.{prefix_joined}
 use Rattle.world_core.proofs.Sound.OnPath.{carried_put, carried_taken}
 use Rattle.world_core.proofs.Log.ByLink.{each_put, only_put, only_taken}
 use Rattle.world_core.proofs.Pairs.OfPair.{pair_data, pair_of}
-use Rattle.comm_rank.proofs.Agrees.Arrived.{crossed_direct, crossed_from}
+use Rattle.comm_rank.proofs.Agrees.Direct.{direct_link}
 
 abbrev HasSome : List Letter → Type 0
 HasSome batch = 1 ≤ length batch
@@ -54,6 +58,22 @@ some_batches (Put to batch ∷ log) h d = by_test (nat_eq to d) (some_batches lo
 abbrev pub PutData : Logs → Type 0
 PutData world = (rank : ℕ) → AllByRecursion (λ l. IsTrue (is_data l)) (letters_put (log_of world rank))
 
+-- a path between two ranks is one link
+path_direct : (layout : Shape) (from to : ℕ) (most : ℕ) → stops layout Direct (suc most) from to ≡ to ∷ []
+path_direct layout from to most =
+    let straight : hop layout Direct from to ≡ to = hop-direct layout from to in
+    let same : nat_eq to to ≡ true = eq-eqb to to refl in
+    rw (straight, same) refl
+
+crossed_from : (layout : Shape) (s d a b : ℕ) → 0 < layout.ranks → IsTrue (crosses (path layout Direct s d) a b) → s ≡ a
+unfolding path
+crossed_from layout s d a b some h =
+    let P : ℕ → Type 0 = λ n. IsTrue (crosses (s ∷ stops layout Direct n s d) a b) in
+    let size : layout.ranks ≡ suc (layout.ranks - 1) = omega (arith, some) in
+    let at : P (suc (layout.ranks - 1)) = subst P size h in
+    let Q : List ℕ → Type 0 = λ xs. IsTrue (crosses (s ∷ xs) a b) in
+    (link_of_two a b s d (subst Q (path_direct layout s d (layout.ranks - 1)) at)).0
+
 module _ (world : Logs) (w : IsWorld world) (direct : world.scheme ≡ Direct) (some : 0 < world.layout.ranks) where
   from_is : (c d : ℕ) (l : Letter) → IsCarried world.layout world.scheme c d l → is_data l ≡ true → l.from ≡ c
   from_is c d l h tag =
@@ -63,7 +83,7 @@ module _ (world : Logs) (w : IsWorld world) (direct : world.scheme ≡ Direct) (
   to_is : (c d : ℕ) (l : Letter) → IsCarried world.layout world.scheme c d l → is_data l ≡ true → l.to ≡ d
   to_is c d l h tag =
       let P : Scheme → Type 0 = λ scheme. IsTrue (crosses (path world.layout scheme l.from l.to) c d) in
-      crossed_direct world.layout l.from l.to c d some (subst P direct (h.crossed tag))
+      sym (direct_link world.layout l.from l.to c d (subst P direct (h.crossed tag)))
 
   -- what was put, and what was taken, of a pair is what its link carried of it
   pub put_is : (c d : ℕ) → pair_put c d (log_of world c) ≡ of_pair c d (letters_of (batches_put d (log_of world c)))

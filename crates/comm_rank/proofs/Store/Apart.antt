@@ -1,12 +1,13 @@
 -- Letters held by destination: what one letter more, or one less, means for each pair of ranks.
-use Rattle.std.proofs.Common.{◌≡◌, ◌≢◌, ℕ, zero, suc, ◌+◌, ◌<◌, Bool, true, false, ◌&&◌, ◌==◌, nat_eq, List, [], ◌∷◌, ◌++◌, length, replicate, get_or, set, refl, sym, ap, ◌∙◌, subst, inl, inr, append-nil, arith, length-append, length-set}
+use Rattle.std.proofs.Common.{◌≡◌, ◌≢◌, ℕ, zero, suc, ◌+◌, ◌<◌, true, false, ◌&&◌, nat_eq, List, [], ◌∷◌, ◌++◌, length, replicate, get_or, set, refl, sym, ap, ◌∙◌, subst, inl, inr, append-nil, arith, length-set}
 use Rattle.std.specs.List.{AllByRecursion}
 use Rattle.std.proofs.lemmas.Bool.{cases_eq, false_from_ne_true}
 use Rattle.std.proofs.lemmas.List.{get_or-set_other, get_or-set_same, get_or-replicate, length-replicate}
 use Rattle.std.proofs.lemmas.List.Elements.{filter-append}
 use Rattle.msg_codec.specs.declared.letter.Letter.{Letter}
 use Rattle.world_core.specs.Log.{letters_of}
-use Rattle.world_core.specs.Pairs.{is_data, is_of_pair, of_pair, of_sender}
+use Rattle.world_core.specs.Pairs.{is_data, is_of_pair, of_pair, sent_number}
+use Rattle.world_core.proofs.Pairs.Numbers.{sent_number-append}
 use Rattle.list_facts.proofs.Elements.{all_append, all_weaker}
 use Rattle.list_facts.proofs.Filters.{filter_none}
 use Rattle.list_facts.proofs.Tests.{and_second}
@@ -75,27 +76,15 @@ one_changed n lists to now held within each = record {
 
 -- how many letters of a sender are held, where one list changes
 pub senders_set : (s : ℕ) (lists : List (List Letter)) (to : ℕ) (now : List Letter) → to < length lists →
-    length (of_sender s (letters_of (set lists to now))) + length (of_sender s (get_or lists to [])) ≡ length (of_sender s (letters_of lists)) + length (of_sender s now)
+    sent_number s (letters_of (set lists to now)) + sent_number s (get_or lists to []) ≡ sent_number s (letters_of lists) + sent_number s now
 senders_set s [] to now lt = absurd (omega arith)
-senders_set s (ls ∷ lists) zero now lt =
-    let test : Letter → Bool = λ l. is_data l && (l.from == s) in
-    omega (
-      arith,
-      ap length (filter-append test ls (letters_of lists)),
-      ap length (filter-append test now (letters_of lists)),
-      length-append (of_sender s ls) (of_sender s (letters_of lists)),
-      length-append (of_sender s now) (of_sender s (letters_of lists)),
-    )
-senders_set s (ls ∷ lists) (suc to) now lt =
-    let test : Letter → Bool = λ l. is_data l && (l.from == s) in
-    omega (
-      arith,
-      ap length (filter-append test ls (letters_of lists)),
-      ap length (filter-append test ls (letters_of (set lists to now))),
-      length-append (of_sender s ls) (of_sender s (letters_of lists)),
-      length-append (of_sender s ls) (of_sender s (letters_of (set lists to now))),
-      senders_set s lists to now (omega arith),
-    )
+senders_set s (ls ∷ lists) zero now lt = omega (arith, sent_number-append s ls (letters_of lists), sent_number-append s now (letters_of lists))
+senders_set s (ls ∷ lists) (suc to) now lt = omega (
+  arith,
+  sent_number-append s ls (letters_of lists),
+  sent_number-append s ls (letters_of (set lists to now)),
+  senders_set s lists to now (omega arith),
+)
 
 -- of each pair, the letters of the changed list
 pair_in : (n : ℕ) (lists : List (List Letter)) (to s d : ℕ) (now : List Letter) → AreHeld n lists → to < n → AllByRecursion (IsHeldFor n to) now →
@@ -121,9 +110,7 @@ gains n lists l held within is =
                 ap (of_pair s d) (get_or-set_other lists l.to d (was ++ l ∷ []) [] other) ∙ sym (apart n lists d held s)
                 ∙ sym (append-nil _) ∙ ap (λ xs. of_pair s d (letters_of lists) ++ xs) (sym (none_of_pair s d (l ∷ []) (held_to n l.to (l ∷ []) d other (is, tt))))
           ]);
-      senders = λ s.
-          let test : Letter → Bool = λ x. is_data x && (x.from == s) in
-          omega (arith, senders_set s lists l.to (was ++ l ∷ []) inside, ap length (filter-append test was (l ∷ [])), length-append (of_sender s was) (of_sender s (l ∷ [])));
+      senders = λ s. omega (arith, senders_set s lists l.to (was ++ l ∷ []) inside, sent_number-append s was (l ∷ []));
     }
 
 pub loses : (n : ℕ) (lists : List (List Letter)) (to : ℕ) (first rest : List Letter) → AreHeld n lists → to < n → held_for lists to ≡ first ++ rest →
@@ -141,9 +128,7 @@ loses n lists to first rest held within is front each =
                 ap (λ xs. xs ++ of_pair s d (get_or (set lists to rest) d [])) (none_of_pair s d first (held_to n to first d other front))
                 ∙ ap (of_pair s d) (get_or-set_other lists to d rest [] other) ∙ sym (apart n lists d held s)
           ]));
-      senders = λ s.
-          let test : Letter → Bool = λ x. is_data x && (x.from == s) in
-          omega (arith, senders_set s lists to rest inside, ap (λ xs. length (of_sender s xs)) is, ap length (filter-append test first rest), length-append (of_sender s first) (of_sender s rest));
+      senders = λ s. omega (arith, senders_set s lists to rest inside, ap (sent_number s) is, sent_number-append s first rest);
     }
 
 -- ---- where nothing is held

@@ -179,6 +179,7 @@ module _ {C : Type 0} (apply : Applies C) (start : C → C) (old new : Rank C) (
     takes_from_each = λ from within. looked_since from (e.takes_from_each from within);
     puts_to_each = λ to within. met_then old.here old.here before looked after refl keeps.fulls keeps.same.serves to new.held (e.puts_to_each to within);
     full = full_then old.here old.here before looked after refl keeps.fulls keeps.same.serves old.layout.ranks old.layout.ranks refl new.held turn.full e.full;
+    none_held = e.none_held;
     stops = λ rank. e.stops rank ∙ keeps.stops rank;
     halts = e.halts ∙ halts;
   }

@@ -21,16 +21,18 @@ use Rattle.world_core.specs.Log.{IsPut, batches_put, letters_of, letters_put, le
 use Rattle.world_core.specs.Pairs.{is_data}
 use Rattle.world_core.specs.Rounds.{barrier_start, ended_below, first_round, rounds_known, sums_told}
 use Rattle.world_core.proofs.Counts.BeforeCount.{counts-append}
-use Rattle.world_core.proofs.Deeds.TwoKinds.{data_not_count, data_not_total}
+use Rattle.world_core.proofs.Counts.StaysFree.{no_counts}
+use Rattle.world_core.proofs.Deeds.TwoKinds.{data_not_total}
 use Rattle.world_core.proofs.Log.ByLink.{each_put}
 use Rattle.comm_rank.specs.declared.turn.Turn.{Turn}
+use Rattle.comm_rank.proofs.Agrees.AfterPuts.{takes_put_none}
 use Rattle.comm_rank.specs.Fold.{Applies}
 use Rattle.comm_rank.specs.Rank.{IsSameRank, Rank, local_of}
 use Rattle.comm_rank.specs.Turns.{Turned}
 use Rattle.term_barrier.specs.Barriers.{AreItsRounds, BarrierAgrees, BarrierState, IsHeard, control_letters, fresh_barrier, none_heard}
 use Rattle.term_barrier.specs.Left.{gained}
 use Rattle.term_barrier.proofs.CountedPlace.Left.{counted_early}
-use Rattle.term_barrier.proofs.CountedPlace.Polled.{no_counts, takes_put_none, turn_counts}
+use Rattle.term_barrier.proofs.CountedPlace.Polled.{turn_counts}
 use Rattle.term_barrier.proofs.Left.Grown.{more_known, sums_stay}
 use Rattle.term_barrier.proofs.Left.SameSums.{first_round-same}
 use Rattle.term_barrier.proofs.Left.Since.{first_grows}
@@ -141,7 +143,7 @@ agrees_put barrier kept me to letters data_alone agrees =
     let more : List Entry = Put to letters ∷ [] in
     let all : AllByRecursion (λ l. IsTrue (is_data l)) (letters_put more) = rw (append-nil letters) data_alone in
     subst (λ ls. BarrierAgrees barrier ls (having_put me to letters)) (append-nil kept)
-    (agrees_gained barrier kept me more (no_counts more (all_weaker _ _ (letters_put more) data_not_count all))
+    (agrees_gained barrier kept me more (no_counts more all)
     (λ rank. none_put rank more (all_weaker _ _ (letters_put more) data_not_total all)) agrees)
 
 pub agrees_turned : {C : Type 0} (apply : Applies C) (old new : Rank C) (before after : List Entry) (turn : Turn) (barrier : BarrierState) (kept : List Letter)

@@ -1,7 +1,7 @@
 -- In a modest log, the control letters say what the log does of the Counts and Totals that it took: each by its place.
 use Rattle.std.proofs.Common.{◌≡◌, ℕ, zero, suc, ◌+◌, Bool, true, false, ◌&&◌, cond, nat_eq, eqb-true, eq-eqb, ne_eqb, is_some, List, [], ◌∷◌, length, map, filter, get_or, slice_get, refl, sym, ap, ◌∙◌, subst, le_trans, arith}
 use Rattle.std.specs.List.{AllByRecursion, find, list_any}
-use Rattle.std.proofs.lemmas.Bool.{false≢true, not-false, or_right}
+use Rattle.std.proofs.lemmas.Bool.{false≢true, not-false}
 use Rattle.std.proofs.lemmas.Option.{slice_get-get_or, slice_get_past}
 use Rattle.list_facts.proofs.Below.{row_is}
 use Rattle.list_facts.proofs.Elements.{all_weaker}
@@ -19,6 +19,7 @@ use Rattle.world_core.specs.Modest.{AreNumbered, IsLawful, IsModest}
 use Rattle.world_core.specs.Rounds.{rounds_known, sums_in, sums_told}
 use Rattle.world_core.proofs.Log.ByLink.{only_taken}
 use Rattle.world_core.proofs.Modest.Lawful.{lawful_batch, sender}
+use Rattle.comm_rank.proofs.Agrees.AfterControl.{control_count, control_total}
 use Rattle.term_barrier.specs.Barriers.{control_letters, no_sums, sums_heard, sums_of}
 use Rattle.term_barrier.proofs.Links.{AllTook, each_link}
 
@@ -104,12 +105,6 @@ module _ (me : Local) where
   right_log (Put to letters ∷ log) lawful = (tt, right_log log lawful.1)
   right_log (Took from letters ∷ log) lawful = (right_letters from letters (lawful_batch me from letters lawful.0).control, right_log log lawful.1)
 
-total_control : (l : Letter) → is_total l ≡ true → is_control l ≡ true
-total_control l is = rw is (or_right (is_count l) true refl)
-
-count_control : (l : Letter) → is_count l ≡ true → is_control l ≡ true
-count_control l is = rw is refl
-
 total_of : (here : ℕ) (l : Letter) → is_total_to here l ≡ true → is_total l ≡ true
 total_of here l is = (and_three (is_total l) (nat_eq l.from 0) (nat_eq l.to here) is).0
 
@@ -142,7 +137,7 @@ module _ (me : Local) (modest : IsModest me) where
       (so_each _ (λ from l h is. eqb-true from 0 (h.total (total_of me.here l is)).0))
       (each_link (λ from l. is_total_to me.here l ≡ is_total l) 0 me.log
       (so_each _ (λ from l h. same_test (is_total_to me.here l) (is_total l) (total_of me.here l) (λ is. let parts = h.total is in rw (is, parts.1, parts.2) refl))))
-      (λ l is. total_control l (total_of me.here l is))
+      (λ l is. control_total l (total_of me.here l is))
       (modest.control.totals_in_order 0) q
 
   -- and so is the Count of a rank
@@ -156,7 +151,7 @@ module _ (me : Local) (modest : IsModest me) where
         (so_each _ (λ rank l h. same_test (is_count_of rank l) (is_count l) (λ is. (count_of rank l is).0) (λ is. let parts = h.count is in rw (is, parts.0, parts.1) refl)))
 
     control : (l : Letter) → is_count_of from l ≡ true → is_control l ≡ true
-    control l is = count_control l (count_of from l is).0
+    control l is = control_count l (count_of from l is).0
 
     pub count_at : (q : ℕ) → count_taken from q me.log ≡ slice_get (filter (is_count_of from) (control_letters me.log)) q
     unfolding count_taken

@@ -95,6 +95,7 @@ module _ (barrier : BarrierState) (kept : List Letter) (range : InRange barrier)
       let here : now.here ≡ barrier.here = ap (λ b. b.here) keep in
       record {
         within = omega (arith, here, ranks, range.within);
+        some = omega (arith, rounds, range.some);
         few = omega (arith, rounds, range.few);
         counted_few = omega (arith, counted, rounds, range.counted_few);
         counted_first = omega (arith, counted, known, has_room.known);

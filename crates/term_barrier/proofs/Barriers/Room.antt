@@ -106,6 +106,22 @@ module _ (barrier : BarrierState) (kept : List Letter) (me : Local) (range : InR
         few,
       )
 
+  -- and of rank 0 at most one
+  pub few_first : 0 < barrier.layout.ranks → (heard_of barrier 0).rounds ≤ barrier.over + 1
+  few_first within =
+      let heard = agrees.its_rounds.heard_are 0 within in
+      let put : totals_put barrier 0 ≡ totals 0 me.log = agrees.its_rounds.totals_are 0 within in
+      let few : totals_put barrier 0 ≤ barrier.over = omega arith in
+      omega (
+        arith,
+        heard.rounds_are,
+        parts_heard (is_count_of 0) agrees.handed kept,
+        ap (λ ls. length (counts_heard 0 ls)) agrees.in_order,
+        few_counts me modest 0,
+        put,
+        few,
+      )
+
   pub room : HasRoom barrier kept
   room = record {
     known =

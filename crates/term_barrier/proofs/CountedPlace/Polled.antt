@@ -4,20 +4,20 @@ use Rattle.std.specs.List.{AllByRecursion}
 use Rattle.std.proofs.lemmas.Bool.{cases_lt}
 use Rattle.std.proofs.lemmas.List.{append_cancel_left}
 use Rattle.list_facts.proofs.Elements.{all_append, all_first, all_second, all_weaker}
-use Rattle.list_facts.proofs.Tests.{none_any}
-use Rattle.msg_codec.specs.Control.{is_count}
 use Rattle.msg_codec.specs.declared.letter.Letter.{Letter}
 use Rattle.world_core.specs.declared.entry.Entry.{Entry}
 use Rattle.world_core.specs.declared.entry.Entry.TheVariants.{Put, Took}
-use Rattle.world_core.specs.Counts.{before_count, counts, puts_count}
-use Rattle.world_core.specs.Log.{IsTake, letters_put, letters_put_by, letters_taken}
+use Rattle.world_core.specs.Counts.{before_count, counts}
+use Rattle.world_core.specs.Log.{letters_put, letters_taken}
 use Rattle.world_core.specs.Pairs.{arrived, is_data, of_pair}
 use Rattle.world_core.proofs.Counts.BeforeCount.{before_all, before_grows, before_part, before_stands, counts-append}
-use Rattle.world_core.proofs.Deeds.TwoKinds.{control_not_data, data_not_count}
+use Rattle.world_core.proofs.Counts.StaysFree.{no_counts}
+use Rattle.world_core.proofs.Deeds.TwoKinds.{control_not_data}
 use Rattle.comm_rank.specs.declared.turn.Turn.{Turn}
 use Rattle.comm_rank.specs.Fold.{Applies, fold_from}
 use Rattle.comm_rank.specs.Rank.{IsSameRank, Rank, held_letters}
 use Rattle.comm_rank.specs.Turns.{Turned}
+use Rattle.comm_rank.proofs.Agrees.AfterPuts.{takes_put_none}
 use Rattle.comm_rank.proofs.Running.TookBelow.{taken_append}
 use Rattle.term_barrier.specs.Account.{Account, IsUpToDate, RankHandler, handler_of}
 use Rattle.term_barrier.specs.CountedPlace.{AreCountedPlaces, IsCountedPlace, MovesNone}
@@ -43,26 +43,13 @@ controls_taken (Took from letters ∷ controls) each = absurd each.0
 pub controls_move_none : (here : ℕ) (controls : List Entry) → AllByRecursion PutsControl controls → MovesNone here controls
 controls_move_none here controls each = moves_none here controls (controls_put controls each) (rw (controls_taken controls each) tt)
 
--- ---- entries that put no Count
-
-pub no_counts : (log : List Entry) → AllByRecursion (λ l. is_count l ≡ false) (letters_put log) → counts log ≡ 0
-no_counts [] none = refl
-no_counts (entry ∷ log) none =
-    let first : puts_count entry ≡ false = none_any is_count (letters_put_by entry) (all_first _ (letters_put_by entry) (letters_put log) none) in
-    rw first (no_counts log (all_second _ (letters_put_by entry) (letters_put log) none))
-
-pub takes_put_none : (taken : List Entry) → AllByRecursion IsTake taken → letters_put taken ≡ []
-takes_put_none [] takes = refl
-takes_put_none (Put to letters ∷ taken) takes = absurd takes.0
-takes_put_none (Took from letters ∷ taken) takes = takes_put_none taken takes.1
-
 -- ---- a turn
 
 pub turn_counts : {C : Type 0} (apply : Applies C) (old new : Rank C) (before after : List Entry) (turn : Turn) (turned : Turned apply old new before after turn) →
     counts (turned.taken ++ turned.placed) ≡ 0
 turn_counts apply old new before after turn turned =
     let none_taken : counts turned.taken ≡ 0 = no_counts turned.taken (rw (takes_put_none turned.taken turned.gained.takes) tt) in
-    let none_placed : counts turned.placed ≡ 0 = no_counts turned.placed (all_weaker _ _ (letters_put turned.placed) data_not_count turned.gained.data_alone) in
+    let none_placed : counts turned.placed ≡ 0 = no_counts turned.placed turned.gained.data_alone in
     omega (arith, counts-append turned.taken turned.placed, none_taken, none_placed)
 
 module _ {C : Type 0} (apply : Applies C) (start : C → C)

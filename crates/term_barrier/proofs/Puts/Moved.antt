@@ -18,10 +18,10 @@ use Rattle.world_core.specs.Rules.{IsHonest, first_broken}
 use Rattle.world_core.specs.Rules.Deed.{Puts}
 use Rattle.comm_rank.specs.Agrees.{Agrees, MayTurn}
 use Rattle.comm_rank.specs.Fold.{Applies}
-use Rattle.comm_rank.specs.Moves.{MoveKeeps}
 use Rattle.comm_rank.specs.Rank.{IsIdle, Rank, held_letters, local_of}
+use Rattle.comm_rank.specs.Turns.{PutsKeep}
 use Rattle.comm_rank.proofs.Agrees.AfterControl.{put_count, put_total}
-use Rattle.comm_rank.proofs.Moves.OnePut.{honest_put, move_keeps}
+use Rattle.comm_rank.proofs.Moves.OnePut.{honest_put, puts_keep}
 use Rattle.term_barrier.specs.Barriers.{BarrierAgrees, BarrierState, HasEveryCount, InRange, IsTotalDue, round_sums, with_count_put, with_total_put}
 use Rattle.term_barrier.specs.Polls.{HasPutControls, Stands}
 use Rattle.term_barrier.proofs.Barriers.Rounds.{sums_are}
@@ -31,15 +31,15 @@ use Rattle.term_barrier.proofs.Puts.Log.{is_free-total}
 
 -- ---- what the post keeps
 
-pub keeps_done : (here : ℕ) (old new : PostState) → PutKeeps here old new → SameFulls old new → MoveKeeps here old new
-keeps_done here old new keeps fulls = move_keeps here old new keeps (record {
+pub keeps_done : (here : ℕ) (old new : PostState) → PutKeeps here old new → SameFulls old new → PutsKeep here old new
+keeps_done here old new keeps fulls = puts_keep here old new keeps (record {
   fulls = λ rank. omega (arith, fulls rank);
   misses = λ rank. omega (arith, keeps.misses rank);
   halts = omega (arith, keeps.halts);
 })
 
-pub keeps_full : (here to : ℕ) (old new : PostState) → PutKeeps here old new → FullsRise to old new → MoveKeeps here old new
-keeps_full here to old new keeps fulls = move_keeps here old new keeps (record {
+pub keeps_full : (here to : ℕ) (old new : PostState) → PutKeeps here old new → FullsRise to old new → PutsKeep here old new
+keeps_full here to old new keeps fulls = puts_keep here old new keeps (record {
   fulls = λ rank. by_rank rank (nat_eq rank to) refl;
   misses = λ rank. omega (arith, keeps.misses rank);
   halts = omega (arith, keeps.halts);
@@ -52,7 +52,7 @@ keeps_full here to old new keeps fulls = move_keeps here old new keeps (record {
 -- ---- no put
 
 pub put_none : (held : List Letter) (barrier : BarrierState) (before after : PostState) → after.log barrier.here ≡ before.log barrier.here →
-    MoveKeeps barrier.here before after → HasPutControls held barrier barrier before after
+    PutsKeep barrier.here before after → HasPutControls held barrier barrier before after
 put_none held barrier before after log keeps = record {
   controls = [];
   log = log ∙ sym (append-nil (before.log barrier.here));

@@ -1,5 +1,5 @@
 -- What two steps, one after the other, leave unchanged of a rank, of its post and of its barrier.
-use Rattle.std.proofs.Common.{Bool, refl, ◌∙◌}
+use Rattle.std.proofs.Common.{Bool, true, refl, ◌∙◌}
 use Rattle.world_core.specs.Post.{PostState}
 use Rattle.world_core.proofs.Posts.CountsNeverFall.{never_fall_refl, never_fall_trans}
 use Rattle.comm_rank.specs.Rank.{IsSameRank, Rank, Worked}
@@ -40,3 +40,10 @@ same_barrier_then a b c first later = record {
   here = later.here ∙ first.here;
   rounds = later.rounds ∙ first.rounds;
 }
+
+-- since before it was entered
+pub same_since_outside : (outside b c : BarrierState) → IsSameBarrier (record outside { inside = true }) b →
+    IsSameBarrier b c → IsSameBarrier outside c
+same_since_outside outside b c first later =
+    let both = same_barrier_then (record outside { inside = true }) b c first later in
+    record { layout = both.layout; here = both.here; rounds = both.rounds }

@@ -1,5 +1,5 @@
 -- Polls that waited, one after another, and how they end: the rank leaves its barrier, or a poll fails.
-use Rattle.std.proofs.Common.{◌≡◌, ℕ, ◌+◌, true, false, List, [], ◌++◌, refl, ap, ◌∙◌, subst}
+use Rattle.std.proofs.Common.{◌≡◌, ℕ, ◌+◌, true, false, List, [], ◌++◌, refl, sym, ap, ◌∙◌, subst}
 use Rattle.list_facts.specs.Prefix.{IsPrefix}
 use Rattle.list_facts.proofs.Prefix.{prefix_refl, prefix_trans}
 use Rattle.msg_codec.specs.declared.letter.Letter.{Letter}
@@ -37,7 +37,47 @@ waited_first apply start barrier me post inside going stands = record {
   halts = refl;
 }
 
--- one poll more, which ended
+-- ---- the rank enters
+
+-- a barrier that its rank is inside stands where it stood
+pub stands_inside : {C : Type 0} (apply : Applies C) (start : C → C) (barrier : BarrierState) (me : Rank C) (post : PostState) →
+    Stands apply start barrier me post → Stands apply start (record barrier { inside = true }) me post
+stands_inside apply start barrier me post stands =
+    let agrees = stands.agrees in
+    let its = agrees.its_rounds in
+    record {
+      belongs = stands.belongs;
+      may_turn = stands.may_turn;
+      agrees = record {
+        layout = agrees.layout;
+        here = agrees.here;
+        handed = agrees.handed;
+        in_order = agrees.in_order;
+        its_rounds = record {
+          counts_are = its.counts_are;
+          totals_are = its.totals_are;
+          known_are = its.known_are;
+          first_is = its.first_is;
+          left_are = its.left_are;
+          last_is = its.last_is;
+          heard_are = its.heard_are;
+        };
+        outside = λ none. absurd cc;
+      };
+    }
+
+pub entered_waits : {C : Type 0} (apply : Applies C) (start : C → C) (outside entered : BarrierState) (me now : Rank C) (post : PostState) →
+    entered ≡ record outside { inside = true } → now ≡ me → me.stopped ≡ false → Stands apply start outside me post →
+    HasWaited apply start (record outside { inside = true }) entered me now post post
+entered_waits {C} apply start outside entered me now post enters same going stands =
+    let inside : BarrierState = record outside { inside = true } in
+    let first : HasWaited apply start inside inside me me post post =
+        waited_first apply start inside me post refl going (stands_inside apply start outside me post stands) in
+    subst (λ (rank : Rank C). HasWaited apply start inside entered me rank post post) (sym same)
+    (subst (λ barrier. HasWaited apply start inside barrier me me post post) (sym enters) first)
+
+-- ---- a poll that ended
+
 module _ {C : Type 0} (apply : Applies C) (start : C → C) (entered barrier left : BarrierState) (one me now : Rank C) (before mid after : PostState)
     (waited : HasWaited apply start entered barrier one me before mid) (answer : Polled)
     (ended : PollEnded apply start barrier left me now mid after answer) where
@@ -99,13 +139,17 @@ module _ {C : Type 0} (apply : Applies C) (start : C → C) (entered barrier lef
 module _ {C : Type 0} (apply : Applies C) (start : C → C) (entered barrier left : BarrierState) (one me now : Rank C) (before mid after : PostState)
     (waited : HasWaited apply start entered barrier one me before mid) where
   pub waited_more : (why : Waiting) → IsSameBarrier barrier left → Worked (record me { stopped = false }) now → KeepsPost me mid after →
-      PollEnded apply start barrier left me now mid after (Waits why) → HasWaited apply start entered left one now before after
-  waited_more why same worked keeps ended =
+      (answer : Polled) → answer ≡ Waits why → PollEnded apply start barrier left me now mid after answer →
+      HasWaited apply start entered left one now before after
+  waited_more why same worked keeps answer is any =
+      let ended = subst (PollEnded apply start barrier left me now mid after) is any in
       waited_then apply start entered barrier left one me now before mid after waited (Waits why) ended same worked keeps ended.answers.0
 
   -- `outside` is the barrier before it was entered
   pub barrier_ended : (outside : BarrierState) → entered.left ≡ outside.left → (number round : ℕ) →
-      PollEnded apply start barrier left me now mid after (Left number round) →
+      (answer : Polled) → answer ≡ Left number round → PollEnded apply start barrier left me now mid after answer →
       BarrierEnded apply start outside left one now before after number round
-  barrier_ended outside same number round ended =
-      left_then apply start entered barrier left one me now before mid after waited (Left number round) ended outside same number round ended.answers
+  barrier_ended outside same number round answer is any =
+      let leaves = Left number round in
+      let ended = subst (PollEnded apply start barrier left me now mid after) is any in
+      left_then apply start entered barrier left one me now before mid after waited leaves ended outside same number round ended.answers

@@ -1,8 +1,8 @@
-use Rattle.std.proofs.Common.{IfErr, rules, ◌+◌, Bool, ◌++◌, ◌∙◌, subst, arith, length-append}
+use Rattle.std.proofs.Common.{IfErr, rules, ◌+◌, Bool, ◌++◌, ◌∙◌, sym, subst, arith, length-append}
 use Rattle.std.proofs.lemmas.Result.{IfErr-weaker}
 use Rattle.comm_rank.specs.Moves.{PutUntil, PutsFailed}
 use Rattle.comm_rank.specs.Turns.{FirstFull}
-use Rattle.comm_rank.proofs.Moves.EachRank.{Below, first_next, first_next_full, later_next, none_or_full_next}
+use Rattle.comm_rank.proofs.Moves.EachRank.{Below, first_next, first_next_full, later_next, none_next, none_or_full_next, some_full}
 use Rattle.comm_rank.proofs.Moves.OnePut.{moved_then}
 use Rattle.comm_rank.proofs.put_out.put_each.Goals as goal
 use Rattle.comm_rank.proofs.put_out.put_each.Goals.{then-placed, else-placed}
@@ -46,4 +46,8 @@ loop-to-preserved g c =
       later = later_next here to a b old mid new p.placed serves p.moved others i.later full until;
       first = first.0;
       below = first.1;
+      none = elim c.if-placed.branch [
+        | then-placed w ↦ λ is. absurd (some_full c.loop-to.full to (sym (w.full-is ∙ w.or-full.ensures) ∙ is))
+        | else-placed w ↦ λ is. none_next here to a b old mid new p.placed serves p.moved others i.later (subst Q w.if-placed.false until) (i.none (sym w.full-is ∙ is))
+      ];
     }

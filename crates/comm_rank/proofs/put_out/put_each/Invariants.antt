@@ -1,5 +1,6 @@
-use Rattle.std.proofs.Common.{◌≡◌, ◌≤◌, ◌<◌, ◌-◌, ◌^◌, ℕ, List, length, min}
+use Rattle.std.proofs.Common.{◌≡◌, ◌≤◌, ◌<◌, ◌-◌, ◌^◌, ℕ, None, List, length, min}
 use Rattle.world_core.specs.declared.entry.Entry.{Entry}
+use Rattle.comm_rank.specs.Held.{NoneClosed}
 use Rattle.comm_rank.specs.Moves.{Moved}
 use Rattle.comm_rank.specs.Turns.{FirstFull, NoneOrFull}
 use Rattle.comm_rank.proofs.Moves.EachRank.{Below}
@@ -15,4 +16,5 @@ invariant-loop-to g l = record {
   later : (d : ℕ) → l.to ≤ d → (g.P.Post.state l.post).fulls d ≡ (g.P.Post.state l.fn.post).fulls d;
   first : FirstFull l.ranks l.held.lists (g.P.Post.state l.fn.post) (g.P.Post.state l.post) l.full;
   below : Below l.to l.full;
+  none : l.full ≡ None → (d : ℕ) → d < l.to → NoneClosed l.held.lists d;
 }

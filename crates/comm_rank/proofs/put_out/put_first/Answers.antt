@@ -5,7 +5,7 @@ use Rattle.world_core.proofs.Posts.CountsNeverFall.{after_put_done, after_put_fu
 use Rattle.comm_rank.specs.Held.{held_for}
 use Rattle.comm_rank.specs.Moves.{Moved}
 use Rattle.comm_rank.proofs.Moves.EachRank.{full_still}
-use Rattle.comm_rank.proofs.Moves.OnePut.{found_full, given_back, had_no_memory, may_put_one, move_keeps, moved_none, moved_one, one_tagged, some_held}
+use Rattle.comm_rank.proofs.Moves.OnePut.{found_full, given_back, had_no_memory, may_put_one, moved_none, moved_one, one_tagged, puts_keep, some_held}
 use Rattle.comm_rank.proofs.put_out.put_first.Goals as goal
 
 pub put-requires-clause-honest : goal.put-requires-clause-honest
@@ -27,7 +27,7 @@ returns-in-Ok-clause-put g c =
       placed = Put c.args.to batch ∷ [];
       moved = moved_one here c.args.to batch before after old new (one_tagged c.args.to _ batch c.in-Some.ensures.one)
           (may_put_one here c.args.to _ before after old batch c.requires.may_put c.requires.within refl c.in-Some.ensures.one c.in-Some.ensures.loses)
-          c.in-Some.ensures.loses all done.log (move_keeps here old new c.put.ensures.keeps (after_put_done here c.args.to batch old new c.put.ensures.keeps done));
+          c.in-Some.ensures.loses all done.log (puts_keep here old new c.put.ensures.keeps (after_put_done here c.args.to batch old new c.put.ensures.keeps done));
       count = refl;
       one = (omega (arith, ap length c.in-Some.ensures.first, length-append batch (held_for after c.args.to), ap length c.in-Some.ensures.one.1), done.fulls);
     }
@@ -42,7 +42,7 @@ returns-in-Err-Full-clause-put g c =
     let back : c.step_back.new.self.lists ≡ before =
     given_back c.args.to before c.next_out.new.self.lists _ _ c.in-Some.batch _ c.next_out.ensures.others c.in-Some.ensures.first (ap batch_back (sym c.in-Err-Full.field-0-is) ∙ c.in-Err-Full.ensures.back) c.step_back.ensures.back in
     let moved : Moved here before c.step_back.new.self.lists old new [] =
-    moved_none here before c.step_back.new.self.lists old new back full.log (move_keeps here old new c.put.ensures.keeps (after_put_full here c.args.to old new c.put.ensures.keeps full)) in
+    moved_none here before c.step_back.new.self.lists old new back full.log (puts_keep here old new c.put.ensures.keeps (after_put_full here c.args.to old new c.put.ensures.keeps full)) in
     record {
       placed = [];
       moved = moved;
@@ -69,6 +69,6 @@ returns-in-Err-NoMemory-clause-failed g c =
     given_back c.args.to before c.next_out.new.self.lists _ _ c.in-Some.batch _ c.next_out.ensures.others c.in-Some.ensures.first (ap batch_back (sym c.in-Err-NoMemory.field-0-is) ∙ c.in-Err-NoMemory.ensures.back) again.ensures.back in
     record {
       placed = [];
-      moved = moved_none here before again.new.self.lists old new back none.log (move_keeps here old new c.put.ensures.keeps (after_put_no_memory here old new c.put.ensures.keeps none));
+      moved = moved_none here before again.new.self.lists old new back none.log (puts_keep here old new c.put.ensures.keeps (after_put_no_memory here old new c.put.ensures.keeps none));
       no_memory = refl;
     }

@@ -1,8 +1,11 @@
-use Rattle.std.proofs.Common.{map, ◌∙◌}
+use Rattle.std.proofs.Common.{map, refl, ◌∙◌, rules}
 use Rattle.world_core.specs.Log.{letters_of}
 use Rattle.comm_rank.specs.Fold.{letter_by}
-use Rattle.comm_rank.proofs.Gains.{count_then, gains_next}
+use Rattle.comm_rank.proofs.Gains.{count_then, gains_next, gains_none}
 use Rattle.comm_rank.proofs.turn.send_out.Goals as goal
+
+pub loop-k-init : goal.loop-k-init
+loop-k-init c = record { held = gains_none (letters_of c.args.held.now.lists); counted = search rules; all = refl }
 
 pub loop-k-preserved : goal.loop-k-preserved
 loop-k-preserved c = record {

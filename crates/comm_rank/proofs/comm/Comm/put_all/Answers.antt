@@ -4,7 +4,8 @@ use Rattle.std.proofs.lemmas.Result.{IfErr-weaker, IfOk-weaker}
 use Rattle.world_core.specs.Post.{PostState}
 use Rattle.comm_rank.specs.Agrees.{Belongs, MayTurn}
 use Rattle.comm_rank.specs.Rank.{Rank}
-use Rattle.comm_rank.specs.Moves.{HasPutAll, MoveKeeps, PutAllFailed}
+use Rattle.comm_rank.specs.Moves.{HasPutAll, PutAllFailed}
+use Rattle.comm_rank.specs.Turns.{PutsKeep}
 use Rattle.comm_rank.proofs.Agrees.AfterPuts.{belongs_after, has_put_all, honest_moved, may_put, may_turn_after, moved_each, put_all_failed}
 use Rattle.comm_rank.proofs.comm.Comm.put_all.Goals as goal
 
@@ -27,7 +28,7 @@ returns-clause-put g c =
     let held = c.put_each.new.held.lists in
     let belongs : Belongs g.H.Handler.apply g.H.Handler.start me old = subst (λ m. Belongs g.H.Handler.apply g.H.Handler.start m old) (sym is) c.requires.belongs in
     IfOk-weaker c.put_each.result _ _
-    (λ what p. subst (λ (m : Rank g.row.H.Denot). HasPutAll m (record me { held = held }) old new what.0 what.1) is (has_put_all g.H.Handler.apply g.H.Handler.start me old belongs c.self.invariant.1 (subst (λ m. MayTurn m (old.log m.here)) (sym is) c.requires.may_turn) held new what.0 what.1 _ c.ranks.ensures.value p)) c.put_each.ensures.put
+    (λ what p. subst (λ (m : Rank g.row.H.Denot). HasPutAll m (record me { held = held }) old new what.0 what.1) is (has_put_all g.H.Handler.apply g.H.Handler.start me old belongs c.self.invariant.1 (subst (λ m. MayTurn m (old.log m.here)) (sym is) c.requires.may_turn) held new what.0 what.1 _ c.ranks.ensures.value c.self.invariant.5 p)) c.put_each.ensures.put
 
 pub returns-clause-failed : goal.returns-clause-failed
 returns-clause-failed g c =
@@ -81,4 +82,4 @@ returns-clause-keeps g c =
     let old : PostState = g.P.Post.state c.args.post.now in
     let new : PostState = g.P.Post.state c.put_each.new.post in
     let m = moved_each i.here _ i.held.lists c.put_each.new.held.lists old new c.put_each.result c.put_each.ensures.put c.put_each.ensures.failed in
-    subst (λ h. MoveKeeps h old new) (ap (λ (m : Rank g.row.H.Denot). m.here) c.self.view_is) m.1.keeps
+    subst (λ h. PutsKeep h old new) (ap (λ (m : Rank g.row.H.Denot). m.here) c.self.view_is) m.1.keeps

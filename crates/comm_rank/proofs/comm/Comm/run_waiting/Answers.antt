@@ -1,9 +1,12 @@
-use Rattle.std.proofs.Common.{IfErr, ◌++◌, [], ◌∷◌, length-append, arith, rules}
+use Rattle.std.proofs.Common.{IfErr, ◌++◌, [], ◌∷◌, refl, length-append, arith, rules}
 use Rattle.std.proofs.lemmas.Result.{IfErr-weaker}
 use Rattle.comm_rank.specs.Running.{StuckFirst}
-use Rattle.comm_rank.proofs.Running.RunAll.{ran_more, rest_for, stuck_among, waits_one_less}
+use Rattle.comm_rank.proofs.Running.RunAll.{ran_more, ran_none, rest_for, stuck_among, waits_one_less}
 use Rattle.comm_rank.proofs.Rank.Same.{ran_then, same_ran}
 use Rattle.comm_rank.proofs.comm.Comm.run_waiting.Goals as goal
+
+pub loop-init : goal.loop-init
+loop-init g c = record { run = []; waits = refl; long = refl; ran = ran_none g.H.Handler.apply c.args.self.now; count = search rules; rank = refl }
 
 pub run_first-requires-clause-for_here : goal.run_first-requires-clause-for_here
 run_first-requires-clause-for_here g c =

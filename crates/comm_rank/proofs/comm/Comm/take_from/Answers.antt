@@ -41,7 +41,7 @@ control_in-requires g c =
     let here = ap (λ (me : Rank _). me.here) c.self.view_is in
     let direct = sym (ap (λ (me : Rank _). me.scheme) c.self.view_is) ∙ c.self.invariant.1 in
     record {
-      control = control_read g.H.Handler.apply g.H.Handler.start old _ c.args.from _ _ here c.requires.belongs c.requires.may_turn c.take.ensures.keeps c.in-Some.batch c.in-Some.ensures.took direct c.requires.sender _
+      control = control_read g.H.Handler.apply g.H.Handler.start old _ c.args.from _ _ here c.requires.belongs c.requires.may_turn c.take.ensures.keeps c.in-Some.batch c.in-Some.ensures.took direct _
           c.begins_with_control.ensures c.if-begins_with_control.true;
     }
 
@@ -60,7 +60,7 @@ returns-then-begins_with_control-clause-took g c =
     ∙ ap (λ xs. xs ++ letter_of_control c.control_in.result ∷ []) was ∙ ap (λ xs. old.controls ++ xs) (sym c.control_in.ensures) in
     let same : me controls ≡ record old { controls = controls } = ap (λ (r : Rank g.row.H.Denot). record r { controls = controls }) c.self.view_is in
     subst (λ (m : Rank g.row.H.Denot). HasTakenFrom c.args.from g.H.Handler.apply g.H.Handler.start old m (g.P.Post.state c.args.post.now) (g.P.Post.state c.take.new.self) 1) (sym same)
-    (control_taken g.H.Handler.apply g.H.Handler.start old _ c.args.from _ _ here c.requires.belongs c.requires.may_turn c.take.ensures.keeps batch c.in-Some.ensures.took direct c.requires.sender _
+    (control_taken g.H.Handler.apply g.H.Handler.start old _ c.args.from _ _ here c.requires.belongs c.requires.may_turn c.take.ensures.keeps batch c.in-Some.ensures.took direct _
     c.begins_with_control.ensures c.if-begins_with_control.true controls more g.met.H.Handler.keeps_start)
 
 pub returns-then-begins_with_control-clause-keeps : goal.returns-then-begins_with_control-clause-keeps
@@ -68,7 +68,7 @@ returns-then-begins_with_control-clause-keeps g c =
     let old = c.args.self.now in
     let here = ap (λ (me : Rank _). me.here) c.self.view_is in
     let direct = sym (ap (λ (me : Rank _). me.scheme) c.self.view_is) ∙ c.self.invariant.1 in
-    batch_keeps g.H.Handler.apply g.H.Handler.start old _ c.args.from _ _ here c.requires.belongs c.requires.may_turn c.take.ensures.keeps c.in-Some.batch c.in-Some.ensures.took direct c.requires.sender
+    batch_keeps g.H.Handler.apply g.H.Handler.start old _ c.args.from _ _ here c.requires.belongs c.requires.may_turn c.take.ensures.keeps c.in-Some.batch c.in-Some.ensures.took direct
 
 pub run_waiting-requires-clause-for_here : goal.run_waiting-requires-clause-for_here
 run_waiting-requires-clause-for_here g c =
@@ -79,7 +79,7 @@ run_waiting-requires-clause-for_here g c =
     let here = ap (λ (me : Rank _). me.here) c.self.view_is in
     let direct = sym (ap (λ (me : Rank _). me.scheme) c.self.view_is) ∙ c.self.invariant.1 in
     waiting_for _ old c.in-Some.batch c.of.result now c.of.ensures
-    (batch_for g.H.Handler.apply g.H.Handler.start old _ c.args.from _ _ here c.requires.belongs c.requires.may_turn c.take.ensures.keeps c.in-Some.batch c.in-Some.ensures.took direct c.requires.sender c.in-Some.batch (all_for_handlers c.in-Some.batch _ c.begins_with_control.ensures c.if-begins_with_control.false))
+    (batch_for g.H.Handler.apply g.H.Handler.start old _ c.args.from _ _ here c.requires.belongs c.requires.may_turn c.take.ensures.keeps c.in-Some.batch c.in-Some.ensures.took direct c.in-Some.batch (all_for_handlers c.in-Some.batch _ c.begins_with_control.ensures c.if-begins_with_control.false))
 
 pub run_waiting-requires-clause-few : goal.run_waiting-requires-clause-few
 run_waiting-requires-clause-few g c =
@@ -90,7 +90,7 @@ run_waiting-requires-clause-few g c =
     let here = ap (λ (me : Rank _). me.here) c.self.view_is in
     let direct = sym (ap (λ (me : Rank _). me.scheme) c.self.view_is) ∙ c.self.invariant.1 in
     few_waiting _ old c.in-Some.batch c.of.result now c.of.ensures
-    (batch_few g.H.Handler.apply g.H.Handler.start old _ c.args.from _ _ here c.requires.belongs c.requires.may_turn c.take.ensures.keeps c.in-Some.batch c.in-Some.ensures.took direct c.requires.sender c.in-Some.batch (all_for_handlers c.in-Some.batch _ c.begins_with_control.ensures c.if-begins_with_control.false))
+    (batch_few g.H.Handler.apply g.H.Handler.start old _ c.args.from _ _ here c.requires.belongs c.requires.may_turn c.take.ensures.keeps c.in-Some.batch c.in-Some.ensures.took direct c.in-Some.batch (all_for_handlers c.in-Some.batch _ c.begins_with_control.ensures c.if-begins_with_control.false))
 
 pub returns-in_err-run_waiting-clause-cut : goal.returns-in_err-run_waiting-clause-cut
 returns-in_err-run_waiting-clause-cut g c =
@@ -106,7 +106,7 @@ returns-in_err-run_waiting-clause-cut g c =
     let same : IsSameRank old new = same_from _ old new c.of.result now (same_ran was new c.run_waiting.ensures.rank) in
     let there : IfErr c.from_residual-in_err-run_waiting.result (StuckIn apply was new c.of.result) = search rules in
     IfErr-weaker c.from_residual-in_err-run_waiting.result _ _
-    (λ fault stuck. batch_cut apply g.H.Handler.start old _ c.args.from _ _ here c.requires.belongs c.requires.may_turn c.take.ensures.keeps c.in-Some.batch c.in-Some.ensures.took direct c.requires.sender c.in-Some.batch (all_for_handlers c.in-Some.batch _ c.begins_with_control.ensures c.if-begins_with_control.false) new same (none_kept g.H.Handler.apply g.H.Handler.start old _ c.args.from _ _ here c.requires.belongs c.requires.may_turn c.take.ensures.keeps c.in-Some.batch c.in-Some.ensures.took direct c.requires.sender _
+    (λ fault stuck. batch_cut apply g.H.Handler.start old _ c.args.from _ _ here c.requires.belongs c.requires.may_turn c.take.ensures.keeps c.in-Some.batch c.in-Some.ensures.took direct c.in-Some.batch (all_for_handlers c.in-Some.batch _ c.begins_with_control.ensures c.if-begins_with_control.false) new same (none_kept g.H.Handler.apply g.H.Handler.start old _ c.args.from _ _ here c.requires.belongs c.requires.may_turn c.take.ensures.keeps c.in-Some.batch c.in-Some.ensures.took direct _
     c.begins_with_control.ensures c.if-begins_with_control.false new (ap (λ (r : Rank _). r.controls) c.run_waiting.ensures.rank ∙ ap (λ (r : Rank _). r.controls) now)) fault
     (stuck_waiting apply _ old new c.of.result c.in-Some.batch now c.of.ensures fault stuck)) there
 
@@ -115,7 +115,7 @@ returns-in_err-run_waiting-clause-keeps g c =
     let old = c.args.self.now in
     let here = ap (λ (me : Rank _). me.here) c.self.view_is in
     let direct = sym (ap (λ (me : Rank _). me.scheme) c.self.view_is) ∙ c.self.invariant.1 in
-    batch_keeps g.H.Handler.apply g.H.Handler.start old _ c.args.from _ _ here c.requires.belongs c.requires.may_turn c.take.ensures.keeps c.in-Some.batch c.in-Some.ensures.took direct c.requires.sender
+    batch_keeps g.H.Handler.apply g.H.Handler.start old _ c.args.from _ _ here c.requires.belongs c.requires.may_turn c.take.ensures.keeps c.in-Some.batch c.in-Some.ensures.took direct
 
 pub returns-clause-took : goal.returns-clause-took
 returns-clause-took g c =
@@ -128,7 +128,7 @@ returns-clause-took g c =
     let direct = sym (ap (λ (me : Rank _). me.scheme) c.self.view_is) ∙ c.self.invariant.1 in
     let same : IsSameRank old new = same_from _ old new c.of.result now (same_ran _ new c.run_waiting.ensures.rank) in
     let ran = c.in_ok-run_waiting.ensures.ran in
-    batch_taken g.H.Handler.apply g.H.Handler.start old _ c.args.from _ _ here c.requires.belongs c.requires.may_turn c.take.ensures.keeps c.in-Some.batch c.in-Some.ensures.took direct c.requires.sender c.in-Some.batch (all_for_handlers c.in-Some.batch _ c.begins_with_control.ensures c.if-begins_with_control.false) new same (none_kept g.H.Handler.apply g.H.Handler.start old _ c.args.from _ _ here c.requires.belongs c.requires.may_turn c.take.ensures.keeps c.in-Some.batch c.in-Some.ensures.took direct c.requires.sender _
+    batch_taken g.H.Handler.apply g.H.Handler.start old _ c.args.from _ _ here c.requires.belongs c.requires.may_turn c.take.ensures.keeps c.in-Some.batch c.in-Some.ensures.took direct c.in-Some.batch (all_for_handlers c.in-Some.batch _ c.begins_with_control.ensures c.if-begins_with_control.false) new same (none_kept g.H.Handler.apply g.H.Handler.start old _ c.args.from _ _ here c.requires.belongs c.requires.may_turn c.take.ensures.keeps c.in-Some.batch c.in-Some.ensures.took direct _
     c.begins_with_control.ensures c.if-begins_with_control.false new (ap (λ (r : Rank _). r.controls) c.run_waiting.ensures.rank ∙ ap (λ (r : Rank _). r.controls) now))
     g.met.H.Handler.keeps_start ran.nothing_waits (ran_waiting g.H.Handler.apply _ old new c.of.result c.in-Some.batch now c.of.ensures ran.ran)
 
@@ -137,4 +137,4 @@ returns-clause-keeps g c =
     let old = c.args.self.now in
     let here = ap (λ (me : Rank _). me.here) c.self.view_is in
     let direct = sym (ap (λ (me : Rank _). me.scheme) c.self.view_is) ∙ c.self.invariant.1 in
-    batch_keeps g.H.Handler.apply g.H.Handler.start old _ c.args.from _ _ here c.requires.belongs c.requires.may_turn c.take.ensures.keeps c.in-Some.batch c.in-Some.ensures.took direct c.requires.sender
+    batch_keeps g.H.Handler.apply g.H.Handler.start old _ c.args.from _ _ here c.requires.belongs c.requires.may_turn c.take.ensures.keeps c.in-Some.batch c.in-Some.ensures.took direct
