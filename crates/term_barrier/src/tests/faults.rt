@@ -1,7 +1,7 @@
 //! A barrier where a rank fails.
 
 use super::ranks::{Ranks, ranks_of, same};
-use super::relay::{NOTE, PASS};
+use super::relay::{NOTE, PASS, Relay};
 use comm_rank::CommFault;
 use std::process::Abort;
 use std::test::*;
@@ -14,7 +14,7 @@ const ONE_LETTER: Limits = Limits {
 };
 
 // Rank 1 has sent as many letters as it may, and is to pass one on.
-fn sends_too_much(rt: &impl Abort, ranks: &mut Ranks) -> Result<(), Fail> {
+fn sends_too_much(rt: &impl Abort, ranks: &mut Ranks<Relay>) -> Result<(), Fail> {
     ranks.send(0, 1, PASS, &[1])?;
     ranks.send(1, 2, NOTE, b"n")?;
     ranks.enter_all()?;

@@ -1,12 +1,15 @@
 //! All ranks of a world on one thread, with their barriers.
-ghost use Rattle.std.specs.Prelude.{◌≡◌, ◌≤◌, ◌<◌, IfOk, false, true};
+ghost use Rattle.std.specs.Prelude.{◌≡◌, ◌≤◌, ◌<◌, IfOk, false, []};
 ghost use Rattle.ygm_route.specs.declared.scheme.Scheme.TheVariants.{Direct};
+ghost use Rattle.world_core.specs.Plain.{state_of};
+ghost use Rattle.world_core.specs.Post.{PostState, SamePost};
 ghost use Rattle.comm_rank.specs.Rank.{fresh_rank};
 ghost use Rattle.term_barrier.specs.Barriers.{fresh_barrier};
+ghost use Rattle.term_barrier.specs.Polls.{Stands};
 
 use super::relay::Relay;
 use crate::{Barrier, Polled};
-use comm_rank::{Comm, CommFault, Turn};
+use comm_rank::{Comm, CommFault, Handler, Turn};
 use msg_codec::{Body, Control, control_of};
 use std::alloc::Global;
 use std::fmt::Debug;
@@ -22,15 +25,31 @@ pub(super) fn same<T: PartialEq + Debug + Drop>(rt: &impl Abort, found: T, wante
     assert_eq!(rt; found, wanted);
 }
 
+// A value in a box. Its owner drops it by one call, whatever it holds.
+fn boxed<T: Drop>(alloc: Global, value: T) -> Result<Box<T>, Fail>
+    ensures { IfOk result (λ boxed. boxed.value ≡ value) }
+{
+    Ok(
+        Box::new(alloc, value)
+            .ok()
+            .ok_or("there is memory for a box")?,
+    )
+}
+
 // A rank, and its barrier.
 #[derive(Drop)]
-pub(super) struct Member {
-    comm: Comm<Relay>,
+pub(super) struct Member<H: Handler> {
+    comm: Comm<H>,
     barrier: Barrier,
 }
 
 // A rank that has sent and run nothing, and was never inside a barrier.
-fn member_of(alloc: Global, layout: Layout, here: u32, limits: Limits) -> Result<Member, Fail>
+fn member_of(
+    alloc: Global,
+    layout: Layout,
+    here: u32,
+    limits: Limits,
+) -> Result<Member<Relay>, Fail>
     requires below { here < layout.ranks }
     ensures rank { IfOk result (λ member. member.comm ≡ fresh_rank layout Direct here limits.letters []) }
     ensures barrier { IfOk result (λ member. member.barrier ≡ fresh_barrier layout here limits.rounds) }
@@ -49,16 +68,92 @@ fn member_of(alloc: Global, layout: Layout, here: u32, limits: Limits) -> Result
     })
 }
 
+impl<H: Handler> Member<H> {
+    // Outside a barrier, it sends a letter.
+    fn send(&mut self, to: u32, tag: u8, body: Body) -> Result<(), Fail>
+        ensures stands { (post : PostState) →
+            (self.old.comm.stopped ≡ false → Stands H.apply H.start self.old.barrier self.old.comm post) →
+            self.new.comm.stopped ≡ false → Stands H.apply H.start self.new.barrier self.new.comm post }
+        ensures here { self.new.comm.here ≡ self.old.comm.here }
+    {
+        if self.comm.is_stopped() || self.barrier.inside() {
+            return Err("a rank outside that isn't stopped sends".into());
+        }
+        if to >= self.comm.ranks() || tag >= 240 {
+            return Err("a data letter is for a rank of the world".into());
+        }
+        self.comm.send(to, tag, body)?;
+        Ok(())
+    }
+
+    fn enter(&mut self) -> Result<(), Fail>
+        ensures stands { (post : PostState) →
+            (self.old.comm.stopped ≡ false → Stands H.apply H.start self.old.barrier self.old.comm post) →
+            self.new.comm.stopped ≡ false → Stands H.apply H.start self.new.barrier self.new.comm post }
+        ensures here { self.new.comm.here ≡ self.old.comm.here }
+    {
+        if self.comm.is_stopped() || self.barrier.inside() {
+            return Err("a rank outside that isn't stopped enters".into());
+        }
+        self.barrier.enter(&mut self.comm);
+        Ok(())
+    }
+
+    // A turn that is no poll.
+    fn turn(&mut self, links: &mut PlainLinks) -> Result<Turn, Fail>
+        requires stands { self.old.comm.stopped ≡ false →
+            Stands H.apply H.start self.old.barrier self.old.comm (state_of links.old) }
+        ensures stands { self.new.comm.stopped ≡ false →
+            Stands H.apply H.start self.new.barrier self.new.comm (state_of links.new) }
+        ensures here { self.new.comm.here ≡ self.old.comm.here }
+        ensures post { SamePost self.old.comm.here (state_of links.old) (state_of links.new) }
+    {
+        if self.comm.is_stopped() {
+            return Err("a rank that isn't stopped takes a turn".into());
+        }
+        Ok(self.comm.turn(links)?)
+    }
+
+    fn poll(&mut self, links: &mut PlainLinks) -> Result<Result<Polled, CommFault>, Fail>
+        requires stands { self.old.comm.stopped ≡ false →
+            Stands H.apply H.start self.old.barrier self.old.comm (state_of links.old) }
+        ensures stands { self.new.comm.stopped ≡ false →
+            Stands H.apply H.start self.new.barrier self.new.comm (state_of links.new) }
+        ensures here { self.new.comm.here ≡ self.old.comm.here }
+        ensures post { SamePost self.old.comm.here (state_of links.old) (state_of links.new) }
+    {
+        if self.comm.is_stopped() || !self.barrier.inside() {
+            return Err("a rank inside that isn't stopped polls".into());
+        }
+        Ok(self.barrier.poll(&mut self.comm, links))
+    }
+
+    // A whole barrier.
+    fn pass<R: Wait>(&mut self, rt: &R, links: &mut PlainLinks) -> Result<(u64, u64), Fail>
+        requires stands { self.old.comm.stopped ≡ false →
+            Stands H.apply H.start self.old.barrier self.old.comm (state_of links.old) }
+        ensures stands { self.new.comm.stopped ≡ false →
+            Stands H.apply H.start self.new.barrier self.new.comm (state_of links.new) }
+        ensures here { self.new.comm.here ≡ self.old.comm.here }
+        ensures post { SamePost self.old.comm.here (state_of links.old) (state_of links.new) }
+    {
+        if self.comm.is_stopped() || self.barrier.inside() {
+            return Err("a rank outside that isn't stopped enters".into());
+        }
+        Ok(self.barrier.barrier(rt, &mut self.comm, links)?)
+    }
+}
+
 // What is large is in a `Vec` and a `Box`. A rank that isn't stopped stands at the links with its barrier.
 #[derive(Drop)]
-pub(super) struct Ranks {
+pub(super) struct Ranks<H: Handler> {
     alloc: Global,
     layout: Layout,
-    members: Vec<Member>,
+    members: Vec<Member<H>>,
     links: Box<PlainLinks>,
 }
 
-impl Model for Ranks {
+impl<H: Handler> Model for Ranks<H> {
     ghost use Rattle.std.specs.Prelude.{◌≡◌, ℕ, Some, false, length, slice_get};
     ghost use Rattle.world_core.specs.Plain.{Plain, state_of};
     ghost use Rattle.term_barrier.specs.declared.tests.ranks.Member.{Member};
@@ -70,20 +165,18 @@ impl Model for Ranks {
 
     ghost invariant = { λ ranks. (ranks.links.value.world.layout ≡ ranks.layout)
         × (length ranks.members.items ≡ ranks.layout.ranks)
-        × ((rank : ℕ) (member : Member) → slice_get ranks.members.items rank ≡ Some member →
+        × ((rank : ℕ) (member : Member H) → slice_get ranks.members.items rank ≡ Some member →
         (member.comm.here ≡ rank) × (member.comm.stopped ≡ false →
-        Stands Relay.apply Relay.start member.barrier member.comm (state_of ranks.links.value))) };
+        Stands H.apply H.start member.barrier member.comm (state_of ranks.links.value))) };
 }
 
 // The ranks of a world of so many, links that hold so many batches, and limits.
-pub(super) fn ranks_of(alloc: Global, ranks: u32, ring: u32, limits: Limits) -> Result<Ranks, Fail>
+pub(super) fn ranks_of(alloc: Global, ranks: u32, ring: u32, limits: Limits) -> Result<Ranks<Relay>, Fail>
     requires ring { 1 ≤ ring }
 {
     let layout = Layout::new(ranks, 1)?;
     let links = PlainLinks::new(alloc, layout, Scheme::Direct, ring, limits)?;
-    let links = Box::new(alloc, links)
-        .ok()
-        .ok_or("there is memory for a box")?;
+    let links = boxed(alloc, links)?;
     let mut members = Vec::new(alloc);
     for here in 0..ranks {
         members.push(member_of(alloc, layout, here, limits)?)?;
@@ -99,8 +192,8 @@ pub(super) fn ranks_of(alloc: Global, ranks: u32, ring: u32, limits: Limits) -> 
 // How many letters a rank sent, and how many ran there.
 pub(super) type Sums = (u64, u64);
 
-impl Ranks {
-    fn member(&self, rank: u32) -> Result<&Member, Fail> {
+impl<H: Handler> Ranks<H> {
+    fn member(&self, rank: u32) -> Result<&Member<H>, Fail> {
         Ok(
             self.members
                 .get(rank as usize)
@@ -117,32 +210,17 @@ impl Ranks {
         Ok(self.member(rank)?.barrier.inside())
     }
 
-    // The first bytes of the letters that ran at a rank.
-    pub(super) fn seen(&self, rank: u32) -> Result<&[u8], Fail> {
-        Ok(self.member(rank)?.comm.contents().seen())
-    }
-
     pub(super) fn sums(&self, rank: u32) -> Result<Sums, Fail> {
         let comm = &self.member(rank)?.comm;
         Ok((comm.sent_count(), comm.run_count()))
     }
 
-    // A rank outside a barrier sends a letter.
     fn send_one(&mut self, from: u32, to: u32, tag: u8, first: u8) -> Result<(), Fail> {
-        let rank = from as usize;
-        if rank >= self.members.len() {
+        let body = Body::of(self.alloc, &[first])?;
+        if from as usize >= self.members.len() {
             return Err("a rank of the world sends".into());
         }
-        let body = Body::of(self.alloc, &[first])?;
-        let member = &mut self.members[rank];
-        if member.comm.is_stopped() || member.barrier.inside() {
-            return Err("a rank outside that isn't stopped sends".into());
-        }
-        if to >= member.comm.ranks() || tag >= 240 {
-            return Err("a data letter is for a rank of the world".into());
-        }
-        member.comm.send(to, tag, body)?;
-        Ok(())
+        self.members[from as usize].send(to, tag, body)
     }
 
     // Sends a letter for each byte of a text.
@@ -155,24 +233,17 @@ impl Ranks {
 
     // A turn that is no poll.
     pub(super) fn turn(&mut self, rank: u32) -> Result<Turn, Fail> {
-        let rank = rank as usize;
-        if rank >= self.members.len() || self.members[rank].comm.is_stopped() {
-            return Err("a rank that isn't stopped takes a turn".into());
+        if rank as usize >= self.members.len() {
+            return Err("a rank of the world takes a turn".into());
         }
-        Ok(self.members[rank].comm.turn(&mut *self.links)?)
+        self.members[rank as usize].turn(&mut self.links)
     }
 
     pub(super) fn enter(&mut self, rank: u32) -> Result<(), Fail> {
-        let rank = rank as usize;
-        if rank >= self.members.len() {
+        if rank as usize >= self.members.len() {
             return Err("a rank of the world enters".into());
         }
-        let member = &mut self.members[rank];
-        if member.comm.is_stopped() || member.barrier.inside() {
-            return Err("a rank outside that isn't stopped enters".into());
-        }
-        member.barrier.enter(&mut member.comm);
-        Ok(())
+        self.members[rank as usize].enter()
     }
 
     pub(super) fn enter_all(&mut self) -> Result<(), Fail> {
@@ -183,15 +254,10 @@ impl Ranks {
     }
 
     pub(super) fn try_poll(&mut self, rank: u32) -> Result<Result<Polled, CommFault>, Fail> {
-        let rank = rank as usize;
-        if rank >= self.members.len() {
+        if rank as usize >= self.members.len() {
             return Err("a rank of the world polls".into());
         }
-        let member = &mut self.members[rank];
-        if member.comm.is_stopped() || !member.barrier.inside() {
-            return Err("a rank inside that isn't stopped polls".into());
-        }
-        Ok(member.barrier.poll(&mut member.comm, &mut *self.links))
+        self.members[rank as usize].poll(&mut self.links)
     }
 
     pub(super) fn poll(&mut self, rank: u32) -> Result<Polled, Fail> {
@@ -199,20 +265,11 @@ impl Ranks {
     }
 
     // A whole barrier.
-    pub(super) fn barrier<R: Wait>(&mut self, rt: &R, rank: u32) -> Result<(u64, u64), Fail> {
-        let rank = rank as usize;
-        if rank >= self.members.len() {
-            return Err("a rank of the world has a barrier".into());
+    pub(super) fn pass<R: Wait>(&mut self, rt: &R, rank: u32) -> Result<(u64, u64), Fail> {
+        if rank as usize >= self.members.len() {
+            return Err("a rank of the world passes a barrier".into());
         }
-        let member = &mut self.members[rank];
-        if member.comm.is_stopped() || member.barrier.inside() {
-            return Err("a rank outside that isn't stopped enters".into());
-        }
-        Ok(
-            member
-                .barrier
-                .barrier(rt, &mut member.comm, &mut *self.links)?,
-        )
+        self.members[rank as usize].pass(rt, &mut self.links)
     }
 
     // All ranks inside poll in turn, until each has left. It returns the numbers of the barriers that they left and
@@ -256,6 +313,13 @@ impl Ranks {
             }
         }
         Ok(counts)
+    }
+}
+
+impl Ranks<Relay> {
+    // The first bytes of the letters that ran at a rank.
+    pub(super) fn seen(&self, rank: u32) -> Result<&[u8], Fail> {
+        Ok(self.member(rank)?.comm.contents().seen())
     }
 }
 

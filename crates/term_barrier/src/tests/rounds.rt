@@ -2,15 +2,15 @@
 ghost use Rattle.std.specs.Prelude.{◌<◌};
 
 use super::ranks::{Ranks, ranks_of, same};
-use super::relay::{ASK, NOTE, PASS};
+use super::relay::{ASK, NOTE, PASS, Relay};
 use std::process::Abort;
 use std::sync::Wait;
 use std::test::*;
 use world_core::Limits;
 
-fn alone<R: Abort + Wait>(rt: &R, ranks: &mut Ranks) -> Result<(), Fail> {
-    let first = ranks.barrier(rt, 0)?;
-    let second = ranks.barrier(rt, 0)?;
+fn alone<R: Abort + Wait>(rt: &R, ranks: &mut Ranks<Relay>) -> Result<(), Fail> {
+    let first = ranks.pass(rt, 0)?;
+    let second = ranks.pass(rt, 0)?;
     same(rt, (first, second), ((0, 1), (1, 3)));
     Ok(())
 }
@@ -21,7 +21,7 @@ fn a_rank_alone_leaves_its_barriers_at_rounds_1_and_3(rt: HostRuntime) -> Result
 }
 
 // Two ranks leave a barrier at the same round.
-fn both_leave(rt: &impl Abort, ranks: &mut Ranks, barrier: u64, round: u64) -> Result<(), Fail> {
+fn both_leave(rt: &impl Abort, ranks: &mut Ranks<Relay>, barrier: u64, round: u64) -> Result<(), Fail> {
     let left = ranks.leave_all()?;
     same(
         rt,
@@ -31,7 +31,7 @@ fn both_leave(rt: &impl Abort, ranks: &mut Ranks, barrier: u64, round: u64) -> R
     Ok(())
 }
 
-fn nothing_sent(rt: &impl Abort, ranks: &mut Ranks) -> Result<(), Fail> {
+fn nothing_sent(rt: &impl Abort, ranks: &mut Ranks<Relay>) -> Result<(), Fail> {
     ranks.enter_all()?;
     both_leave(rt, ranks, 0, 1)
 }
@@ -42,13 +42,13 @@ fn ranks_that_sent_nothing_leave_barrier_0_at_round_1(rt: HostRuntime) -> Result
 }
 
 // Letters both ways, and one that a rank sends itself.
-fn send_crosswise(ranks: &mut Ranks) -> Result<(), Fail> {
+fn send_crosswise(ranks: &mut Ranks<Relay>) -> Result<(), Fail> {
     ranks.send(0, 1, NOTE, b"ab")?;
     ranks.send(0, 0, NOTE, b"c")?;
     ranks.send(1, 0, NOTE, b"xy")
 }
 
-fn all_have_run(rt: &impl Abort, ranks: &Ranks) -> Result<(), Fail> {
+fn all_have_run(rt: &impl Abort, ranks: &Ranks<Relay>) -> Result<(), Fail> {
     same(
         rt,
         (ranks.seen(0)?, ranks.seen(1)?),
@@ -59,7 +59,7 @@ fn all_have_run(rt: &impl Abort, ranks: &Ranks) -> Result<(), Fail> {
 }
 
 // All letters run in turns before the barrier.
-fn run_before(rt: &impl Abort, ranks: &mut Ranks) -> Result<(), Fail> {
+fn run_before(rt: &impl Abort, ranks: &mut Ranks<Relay>) -> Result<(), Fail> {
     send_crosswise(ranks)?;
     for _ in 0..3 {
         ranks.turn(0)?;
@@ -78,7 +78,7 @@ fn a_barrier_ends_at_round_1_where_all_that_was_sent_ran_before(
 }
 
 // All letters are still held as both ranks enter.
-fn run_inside(rt: &impl Abort, ranks: &mut Ranks) -> Result<(), Fail> {
+fn run_inside(rt: &impl Abort, ranks: &mut Ranks<Relay>) -> Result<(), Fail> {
     send_crosswise(ranks)?;
     ranks.enter_all()?;
     both_leave(rt, ranks, 0, 2)?;
@@ -92,7 +92,7 @@ fn a_barrier_ends_after_letters_that_were_held_as_it_began(rt: HostRuntime) -> R
 
 // Rank 0 counts before it is asked, and rank 1 after the first of two answers. So round 0 has the sums 1 and 1 while
 // the other answer is in its link.
-fn agree_by_chance(rt: &impl Abort, ranks: &mut Ranks) -> Result<(), Fail> {
+fn agree_by_chance(rt: &impl Abort, ranks: &mut Ranks<Relay>) -> Result<(), Fail> {
     ranks.enter(0)?;
     ranks.poll(0)?;
     ranks.send(1, 0, ASK, b"q")?;
@@ -119,7 +119,7 @@ fn sums_that_agree_while_a_letter_is_on_its_way_end_no_barrier(
 }
 
 // Each of three ranks sends the next a letter that is passed on ten times. So each rank runs eleven, and sends as many.
-fn pass_round(rt: &impl Abort, ranks: &mut Ranks, barrier: u64) -> Result<(), Fail>
+fn pass_round(rt: &impl Abort, ranks: &mut Ranks<Relay>, barrier: u64) -> Result<(), Fail>
     requires { barrier < 3 }
 {
     ranks.send(0, 1, PASS, &[10])?;
@@ -148,7 +148,7 @@ fn pass_round(rt: &impl Abort, ranks: &mut Ranks, barrier: u64) -> Result<(), Fa
     Ok(())
 }
 
-fn three_barriers(rt: &impl Abort, ranks: &mut Ranks) -> Result<(), Fail> {
+fn three_barriers(rt: &impl Abort, ranks: &mut Ranks<Relay>) -> Result<(), Fail> {
     for barrier in 0..3 {
         pass_round(rt, ranks, barrier)?;
     }

@@ -1,19 +1,19 @@
 //! What a poll returns, by the reason for which its rank waits.
 
 use super::ranks::{Ranks, ranks_of, same};
-use super::relay::NOTE;
+use super::relay::{NOTE, Relay};
 use crate::{Polled, Waiting};
 use std::process::Abort;
 use std::test::*;
 use world_core::Limits;
 
 // A poll of a rank returns this reason.
-fn waits(rt: &impl Abort, ranks: &mut Ranks, rank: u32, why: Waiting) -> Result<(), Fail> {
+fn waits(rt: &impl Abort, ranks: &mut Ranks<Relay>, rank: u32, why: Waiting) -> Result<(), Fail> {
     same(rt, ranks.poll(rank)?, Polled::Waiting(why));
     Ok(())
 }
 
-fn nothing_sent(rt: &impl Abort, ranks: &mut Ranks) -> Result<(), Fail> {
+fn nothing_sent(rt: &impl Abort, ranks: &mut Ranks<Relay>) -> Result<(), Fail> {
     ranks.enter_all()?;
     waits(rt, ranks, 0, Waiting::Count { rank: 0, round: 0 })?;
     waits(rt, ranks, 0, Waiting::Worked { took: 1 })?;
@@ -32,7 +32,7 @@ const ONE_ROUND: Limits = Limits {
     batches: 8,
 };
 
-fn one_round(rt: &impl Abort, ranks: &mut Ranks) -> Result<(), Fail> {
+fn one_round(rt: &impl Abort, ranks: &mut Ranks<Relay>) -> Result<(), Fail> {
     ranks.enter_all()?;
     waits(rt, ranks, 0, Waiting::Count { rank: 0, round: 0 })?;
     waits(rt, ranks, 0, Waiting::Worked { took: 1 })?;
@@ -47,7 +47,7 @@ fn a_rank_that_counted_all_its_rounds_waits_for_ever(rt: HostRuntime) -> Result<
 }
 
 // Rank 1 counts once both of its letters are put, and once there is room for the Count.
-fn through_a_narrow_link(rt: &impl Abort, ranks: &mut Ranks) -> Result<(), Fail> {
+fn through_a_narrow_link(rt: &impl Abort, ranks: &mut Ranks<Relay>) -> Result<(), Fail> {
     ranks.send(1, 0, NOTE, b"ab")?;
     ranks.enter_all()?;
     waits(rt, ranks, 1, Waiting::Link { to: 0 })?;
@@ -67,7 +67,7 @@ fn a_rank_counts_only_once_it_holds_no_letter(rt: HostRuntime) -> Result<(), Fai
 }
 
 // The link to rank 1 has room for one batch, a letter, so that the Total comes after it.
-fn totals_held_up(rt: &impl Abort, ranks: &mut Ranks) -> Result<(), Fail> {
+fn totals_held_up(rt: &impl Abort, ranks: &mut Ranks<Relay>) -> Result<(), Fail> {
     ranks.send(0, 1, NOTE, b"a")?;
     ranks.enter_all()?;
     waits(rt, ranks, 1, Waiting::Total { round: 0 })?;

@@ -1,0 +1,12 @@
+use Rattle.std.proofs.Common.{sym, ◌∙◌}
+use Rattle.world_core.specs.Plain.{state_of}
+use Rattle.comm_rank.proofs.Rank.Same.{worked_same}
+use Rattle.term_barrier.proofs.tests.ranks.Standing.{stands_turned}
+use Rattle.term_barrier.proofs.tests.ranks.Member.turn.Goals as goal
+
+pub returns-clause-stands : goal.returns-clause-stands
+returns-clause-stands g c = λ going.
+    let me = c.args.self.now.comm in
+    let stands = c.requires.stands (sym c.is_stopped.ensures ∙ c.if-is_stopped.false) in
+    stands_turned g.H.Handler.apply g.H.Handler.start c.args.self.now.barrier me (state_of c.args.links.now) stands c.turn.new.self (state_of c.turn.new.post) c.in_ok-turn.field-0
+    (worked_same me c.turn.new.self _ c.turn.ensures.rank) c.in_ok-turn.ensures.ended
