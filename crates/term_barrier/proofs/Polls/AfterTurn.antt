@@ -126,8 +126,8 @@ same_handed barrier letters =
       rounds = ap (λ (b : BarrierState). b.rounds) keeps;
     }
 
-pub same_put : (held : List Letter) (barrier now new : BarrierState) (before after : PostState) → IsSameBarrier barrier now → HasPutControls held now new before after → IsSameBarrier barrier new
-same_put held barrier now new before after same put = record {
+pub same_put : (held : List Letter) (barrier told new : BarrierState) (before after : PostState) → IsSameBarrier barrier told → HasPutControls held told new before after → IsSameBarrier barrier new
+same_put held barrier told new before after same put = record {
   layout = ap (λ (b : BarrierState). b.layout) put.barrier ∙ same.layout;
   here = ap (λ (b : BarrierState). b.here) put.barrier ∙ same.here;
   rounds = ap (λ (b : BarrierState). b.rounds) put.barrier ∙ same.rounds;

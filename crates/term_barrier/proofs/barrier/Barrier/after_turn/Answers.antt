@@ -1,5 +1,6 @@
-use Rattle.std.proofs.Common.{◌≡◌, ◌<◌, ◌≤◌, ◌-◌, ℕ, true, false, Ok, ap, ◌∙◌, sym, subst, arith}
+use Rattle.std.proofs.Common.{◌≡◌, ◌<◌, ◌≤◌, ◌-◌, ℕ, true, false, Ok, [], ap, ◌∙◌, sym, subst, arith}
 use Rattle.world_core.specs.Post.{PostState}
+use Rattle.comm_rank.specs.Turns.{PutsKeep}
 use Rattle.comm_rank.specs.Rank.{Rank, held_letters, local_of}
 use Rattle.term_barrier.specs.contracts.barrier.Barrier.{the_view}
 use Rattle.term_barrier.specs.Barriers.{BarrierState, with_letters}
@@ -70,7 +71,33 @@ returns-in_err-full-clause-barrier g c =
     (subst (IsSameBarrier barrier) (sym c.hear_all.ensures.heard) (same_handed barrier c.args.comm.now.controls)) c.put_controls-put.ensures.controls
 
 pub returns-clause-answers : goal.returns-clause-answers
-returns-clause-answers g c = ?
+returns-clause-answers g c = λ one before same ended.
+    let barrier = c.args.self.now in
+    let me = c.args.comm.now in
+    let told : BarrierState = c.hear_all.new.self in
+    let new : BarrierState = c.put_controls-put.new.self in
+    let rank : Rank g.row.H.Denot = c.hear_all.new.comm in
+    let post = g.P.Post.state c.args.post.now in
+    let after = g.P.Post.state c.put_controls-put.new.post in
+    let put = c.put_controls-put.ensures.controls in
+    let here : told.here ≡ me.here = ap (λ (b : BarrierState). b.here) c.hear_all.ensures.heard ∙ (same_handed barrier me.controls).here ∙ c.requires.stands.agrees.here in
+    let all_handed : rank.controls ≡ [] = ap (λ (r : Rank g.row.H.Denot). r.controls) c.hear_all.ensures.handed_over in
+    let ok : c.put_controls-put.result ≡ Ok c.in_ok-full.full = c.in_ok-full.was in
+    let within : told.left ≤ barrier.left =
+        omega (arith, c.if-self-left.false, ap (λ (b : BarrierState). b.left) c.self.view_is, ap (λ (b : BarrierState). b.left) c.self-2.view_is) in
+    let heard_left : told.left ≡ barrier.left =
+        ap (λ (b : BarrierState). b.left) c.hear_all.ensures.heard
+        ∙ same_left g.H.Handler.apply g.H.Handler.start barrier me post c.requires.stands c.holds.ensures.in_range
+        (omega (arith, within, ap (λ (b : BarrierState). b.left) c.hear_all.ensures.heard)) in
+    let inside : told.inside ≡ true =
+        ap (λ (b : BarrierState). b.inside) c.hear_all.ensures.heard
+        ∙ inside_still g.H.Handler.apply g.H.Handler.start barrier me post c.requires.stands c.holds.ensures.in_range ∙ c.requires.inside in
+    (record { same_left = ap (λ (b : BarrierState). b.left) put.barrier ∙ heard_left; inside = ap (λ (b : BarrierState). b.inside) put.barrier ∙ inside },
+    reason g.H.Handler.apply g.H.Handler.start one me before post after c.args.turn same ended
+    (subst (λ h. PutsKeep h post after) here put.keeps) new rank c.in_ok-full.full c.why.result c.holds-3.ensures.in_range all_handed
+    c.hear_all.ensures.handed_over c.put_controls-put.ensures.stands c.in_ok-full.ensures.full
+    (λ none. c.put_controls-put.ensures.count_put (ok ∙ ap Ok none)) (λ none. c.put_controls-put.ensures.totals_put (ok ∙ ap Ok none))
+    c.why.ensures.worked c.why.ensures.link c.why.ensures.other)
 
 pub returns-clause-barrier : goal.returns-clause-barrier
 returns-clause-barrier g c =
