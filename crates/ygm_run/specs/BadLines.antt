@@ -9,7 +9,8 @@ use Rattle.ygm_run.specs.Limits.{max_line}
 abbrev pub first_wrong : (List ℕ → Option LineWhy) → List (List ℕ) → Option (ℕ × LineWhy)
 first_wrong wrong [] = None
 first_wrong wrong (raw ∷ raws) =
-    option_or (option_map (λ why. (1, why)) (wrong raw)) (option_map (λ found. (found.0 + 1, found.1)) (first_wrong wrong raws))
+    option_or (option_map (λ why. (1, why)) (wrong raw))
+    (option_map (λ found. (found.0 + 1, found.1)) (first_wrong wrong raws))
 
 -- the raw lines before the first bad one
 abbrev pub good_lines : (List ℕ → Option LineWhy) → List (List ℕ) → List (List ℕ)

@@ -36,7 +36,8 @@ words order sources = record {
 
 -- The file of this number is the first that couldn't be opened: those before it were, and no byte of them was read.
 -- `contents` are the bytes of the files. A source shows what remains in it (`left`) and its count of faults.
-pub record IsFirstUnopened {S : Type 0} (left : S → ExposedBytes) (faults : S → ℕ) (contents : List ExposedBytes) (sources : List S) (file : ℕ) : Type 0 where
+pub record IsFirstUnopened {S : Type 0} (left : S → ExposedBytes) (faults : S → ℕ)
+    (contents : List ExposedBytes) (sources : List S) (file : ℕ) : Type 0 where
   pub within : file < length contents
   pub opened_before : length sources ≡ file
   pub unread : map left sources ≡ take file contents
@@ -45,14 +46,17 @@ pub record IsFirstUnopened {S : Type 0} (left : S → ExposedBytes) (faults : S 
 -- A file couldn't be opened, and the count of faults of the files rose; or each was opened, and the count stands.
 abbrev pub opens : {S : Type 0} → (S → ExposedBytes) → (S → ℕ) → List ExposedBytes → List S → ℕ → ℕ → Stage
 opens left faults contents sources count count_now = record {
-  refuses = λ status. (file : ℕ) × (status ≡ OpenFault file) × IsFirstUnopened left faults contents sources file × Rose count count_now;
+  refuses = λ status. (file : ℕ) × (status ≡ OpenFault file)
+      × IsFirstUnopened left faults contents sources file × Rose count count_now;
   passes = (length sources ≡ length contents) × (count_now ≡ count);
 }
 
 -- A rank's count is full. That a run goes on says nothing of the counts.
-abbrev pub counts : {S : Type 0} → (List ℕ → Option LineWhy) → (S → ExposedBytes) → (S → ℕ) → List ExposedBytes → List S → Stage
+abbrev pub counts : {S : Type 0} → (List ℕ → Option LineWhy) → (S → ExposedBytes) → (S → ℕ)
+    → List ExposedBytes → List S → Stage
 counts wrong left faults contents sources = record {
-  refuses = λ status. (rank limit : ℕ) × (status ≡ CountFull rank limit) × IsFullAtRank wrong left faults contents sources rank limit;
+  refuses = λ status. (rank limit : ℕ) × (status ≡ CountFull rank limit)
+      × IsFullAtRank wrong left faults contents sources rank limit;
   passes = ⊤;
 }
 
@@ -62,9 +66,11 @@ of_input rank Read = ReadFault rank
 of_input rank (BadInput line why) = BadLine rank line why
 
 -- The input of this rank, the lowest with a fault, failed; or all files were read to their ends.
-abbrev pub inputs : {S : Type 0} → (List ℕ → Option LineWhy) → (S → ExposedBytes) → (S → ℕ) → List ExposedBytes → List S → Stage
+abbrev pub inputs : {S : Type 0} → (List ℕ → Option LineWhy) → (S → ExposedBytes) → (S → ℕ)
+    → List ExposedBytes → List S → Stage
 inputs wrong left faults contents sources = record {
-  refuses = λ status. (rank : ℕ) × (found : InputFault) × (status ≡ of_input rank found) × IsLowestFault wrong left faults contents sources rank found;
+  refuses = λ status. (rank : ℕ) × (found : InputFault) × (status ≡ of_input rank found)
+      × IsLowestFault wrong left faults contents sources rank found;
   passes = AllRead wrong left faults contents sources;
 }
 
@@ -102,4 +108,5 @@ pub record FollowsVerdict (verdict : Verdict) (status : Status) (before now : Ex
 -- A text was appended to what a sink held: all of it, or less than all where a write failed. A sink shows what it holds
 -- and its count of faults.
 abbrev pub IsNoted : {N : Type 0} → (N → ExposedBytes) → (N → ℕ) → N → N → List ℕ → Type 0
-IsNoted holds faults before now text = AppendedTo text (holds before) (holds now) ⊎ (FrontAppended text (holds before) (holds now) × Rose (faults before) (faults now))
+IsNoted holds faults before now text = AppendedTo text (holds before) (holds now)
+    ⊎ (FrontAppended text (holds before) (holds now) × Rose (faults before) (faults now))

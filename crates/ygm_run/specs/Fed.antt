@@ -49,8 +49,8 @@ EndedWith (Some (Bad line why)) reader left faults faults_now = IfSome (to_come 
 
 -- What was read before the piece that made a line bad has no bad line, and nothing was read after that piece.
 abbrev pub StopsAtPiece : (List ℕ → Option LineWhy) → ExposedBytes → ExposedBytes → Option InputFault → Type 0
-StopsAtPiece wrong content left fault = (line : ℕ) (why : LineWhy) → fault ≡ Some (Bad line why) → (front piece : List ℕ) × (length piece ≤ max_piece)
-    × TakenFrom (front ++ piece) content left × (first_wrong wrong (raw_lines front) ≡ None)
+StopsAtPiece wrong content left fault = (line : ℕ) (why : LineWhy) → fault ≡ Some (Bad line why)
+    → (front piece : List ℕ) × (length piece ≤ max_piece) × TakenFrom (front ++ piece) content left × (first_wrong wrong (raw_lines front) ≡ None)
 
 -- a line is to come that isn't too long
 abbrev pub HasLine : ExposedBytes → Type 0

@@ -21,7 +21,8 @@ bad_line (Some (Bad line why)) = Some (line, why)
 -- A source was read to its end or to its first fault. `wrong` says which lines are bad, `left` is what remains in a
 -- source, `faults` its count of faults; `content` is what this one had at first, `source` the source now, and `fault` that
 -- fault.
-pub record IsRead {S : Type 0} (wrong : List ℕ → Option LineWhy) (left : S → ExposedBytes) (faults : S → ℕ) (content : ExposedBytes) (source : S) (fault : Option InputFault) : Type 0 where
+pub record IsRead {S : Type 0} (wrong : List ℕ → Option LineWhy) (left : S → ExposedBytes) (faults : S → ℕ)
+    (content : ExposedBytes) (source : S) (fault : Option InputFault) : Type 0 where
   -- a read of it failed exactly where its count of faults is above 0
   pub read : (fault ≡ Some Read) ↔ (0 < faults source)
   -- where none failed, the bad line is the first one of the content, if there is one, for the reason that it has
@@ -29,7 +30,8 @@ pub record IsRead {S : Type 0} (wrong : List ℕ → Option LineWhy) (left : S �
   -- without a fault nothing remains
   pub to_its_end : fault ≡ None → NothingLeft (left source)
   -- what was read before a failed read has no bad line, and at most as many line ends as a rank may send letters
-  pub before_read : fault ≡ Some Read → (front : List ℕ) × TakenFrom front content (left source) × (first_wrong wrong (raw_lines front) ≡ None) × (ended_lines front ≤ most_letters)
+  pub before_read : fault ≡ Some Read → (front : List ℕ) × TakenFrom front content (left source)
+      × (first_wrong wrong (raw_lines front) ≡ None) × (ended_lines front ≤ most_letters)
   -- where no read failed, at most as many lines come before a bad one as a rank may send letters
   pub few : faults source ≡ 0 → IfSome content (λ bytes. length (good_lines wrong (raw_lines bytes)) ≤ most_letters)
 
@@ -41,21 +43,27 @@ pub record IsFull (wrong : List ℕ → Option LineWhy) (content : ExposedBytes)
   pub no_read_failed : faults ≡ 0
 
 -- the files of the ranks, in their order, were read, each with its fault
-abbrev pub AreRead : {S : Type 0} → (List ℕ → Option LineWhy) → (S → ExposedBytes) → (S → ℕ) → List ExposedBytes → List S → (ℕ → Option InputFault) → Type 0
+abbrev pub AreRead : {S : Type 0} → (List ℕ → Option LineWhy) → (S → ExposedBytes) → (S → ℕ) → List ExposedBytes → List S
+    → (ℕ → Option InputFault) → Type 0
 AreRead {S} wrong left faults contents sources fault =
-    (rank : ℕ) (content : ExposedBytes) (source : S) → slice_get contents rank ≡ Some content → slice_get sources rank ≡ Some source → IsRead wrong left faults content source (fault rank)
+    (rank : ℕ) (content : ExposedBytes) (source : S) → slice_get contents rank ≡ Some content → slice_get sources rank ≡ Some source
+    → IsRead wrong left faults content source (fault rank)
 
 -- the files of the first ranks were read
-abbrev pub FirstAreRead : {S : Type 0} → (List ℕ → Option LineWhy) → (S → ExposedBytes) → (S → ℕ) → List ExposedBytes → List S → ℕ → (ℕ → Option InputFault) → Type 0
+abbrev pub FirstAreRead : {S : Type 0} → (List ℕ → Option LineWhy) → (S → ExposedBytes) → (S → ℕ) → List ExposedBytes → List S
+    → ℕ → (ℕ → Option InputFault) → Type 0
 FirstAreRead {S} wrong left faults contents sources ranks fault =
-    (rank : ℕ) (content : ExposedBytes) (source : S) → rank < ranks → slice_get contents rank ≡ Some content → slice_get sources rank ≡ Some source → IsRead wrong left faults content source (fault rank)
+    (rank : ℕ) (content : ExposedBytes) (source : S) → rank < ranks
+    → slice_get contents rank ≡ Some content → slice_get sources rank ≡ Some source → IsRead wrong left faults content source (fault rank)
 
 -- all files were read to their ends
-abbrev pub AllRead : {S : Type 0} → (List ℕ → Option LineWhy) → (S → ExposedBytes) → (S → ℕ) → List ExposedBytes → List S → Type 0
+abbrev pub AllRead : {S : Type 0} → (List ℕ → Option LineWhy) → (S → ExposedBytes) → (S → ℕ)
+    → List ExposedBytes → List S → Type 0
 AllRead wrong left faults contents sources = AreRead wrong left faults contents sources (λ rank. None)
 
 -- all files were read, and this fault is that of the lowest rank that has one
-pub record IsLowestFault {S : Type 0} (wrong : List ℕ → Option LineWhy) (left : S → ExposedBytes) (faults : S → ℕ) (contents : List ExposedBytes) (sources : List S) (rank : ℕ) (found : InputFault) : Type 0 where
+pub record IsLowestFault {S : Type 0} (wrong : List ℕ → Option LineWhy) (left : S → ExposedBytes) (faults : S → ℕ)
+    (contents : List ExposedBytes) (sources : List S) (rank : ℕ) (found : InputFault) : Type 0 where
   pub fault : ℕ → Option InputFault
   pub read : AreRead wrong left faults contents sources fault
   pub within : rank < length sources
@@ -64,7 +72,8 @@ pub record IsLowestFault {S : Type 0} (wrong : List ℕ → Option LineWhy) (lef
 
 -- The count of letters of a rank is full, and of no rank below. The files of the ranks below were read, each to its end
 -- or its first fault.
-pub record IsFullAtRank {S : Type 0} (wrong : List ℕ → Option LineWhy) (left : S → ExposedBytes) (faults : S → ℕ) (contents : List ExposedBytes) (sources : List S) (rank limit : ℕ) : Type 0 where
+pub record IsFullAtRank {S : Type 0} (wrong : List ℕ → Option LineWhy) (left : S → ExposedBytes) (faults : S → ℕ)
+    (contents : List ExposedBytes) (sources : List S) (rank limit : ℕ) : Type 0 where
   pub content : ExposedBytes
   pub source : S
   pub content_is : slice_get contents rank ≡ Some content
@@ -76,4 +85,5 @@ pub record IsFullAtRank {S : Type 0} (wrong : List ℕ → Option LineWhy) (left
 -- what remains of each file that was opened is a suffix of it
 abbrev pub AreRests : {S : Type 0} → (S → ExposedBytes) → List ExposedBytes → List S → Type 0
 AreRests {S} left contents sources =
-    (rank : ℕ) (content : ExposedBytes) (source : S) → slice_get contents rank ≡ Some content → slice_get sources rank ≡ Some source → IsRest content (left source)
+    (rank : ℕ) (content : ExposedBytes) (source : S) → slice_get contents rank ≡ Some content → slice_get sources rank ≡ Some source
+    → IsRest content (left source)

@@ -31,8 +31,10 @@ StopsBy full fault (JobFull rank at) = full rank at
 StopsBy full fault JobNoMemory = ⊤
 
 -- why the job over these files has no text
-abbrev pub JobStops : {S : Type 0} → (List ℕ → Option LineWhy) → (S → ExposedBytes) → (S → ℕ) → List ExposedBytes → List S → JobFault → Type 0
-JobStops wrong left faults contents sources = StopsBy (IsFullAtRank wrong left faults contents sources) (IsLowestFault wrong left faults contents sources)
+abbrev pub JobStops : {S : Type 0} → (List ℕ → Option LineWhy) → (S → ExposedBytes) → (S → ℕ)
+    → List ExposedBytes → List S → JobFault → Type 0
+JobStops wrong left faults contents sources =
+    StopsBy (IsFullAtRank wrong left faults contents sources) (IsLowestFault wrong left faults contents sources)
 
 -- a rank's fault as one of the job; none is a stop
 abbrev pub IsFaultOf : ℕ → CommFault → JobFault → Type 0

@@ -17,7 +17,8 @@ pub data Verdict : Type 0 where
 abbrev pub first_bad : (List ℕ → Option LineWhy) → List (List ℕ) → Option (ℕ × (ℕ × LineWhy))
 first_bad wrong [] = None
 first_bad wrong (file ∷ files) =
-    option_or (option_map (λ found. (0, found)) (first_wrong wrong (raw_lines file))) (option_map (λ found. (found.0 + 1, found.1)) (first_bad wrong files))
+    option_or (option_map (λ found. (0, found)) (first_wrong wrong (raw_lines file)))
+    (option_map (λ found. (found.0 + 1, found.1)) (first_bad wrong files))
 
 -- the bad line, if there is one, else the text
 abbrev pub bad_or_text : Option (ℕ × (ℕ × LineWhy)) → List ℕ → Verdict
@@ -30,11 +31,14 @@ tally_verdict files = bad_or_text (first_bad tally_wrong files) (tally_text (lin
 
 -- no file has a bad line
 abbrev pub AreGood : (List ℕ → Option LineWhy) → List (List ℕ) → Type 0
-AreGood wrong files = (rank : ℕ) (file : List ℕ) → slice_get files rank ≡ Some file → first_wrong wrong (raw_lines file) ≡ None
+AreGood wrong files = (rank : ℕ) (file : List ℕ) → slice_get files rank ≡ Some file
+    → first_wrong wrong (raw_lines file) ≡ None
 
 -- This rank's file has this first bad line, for this reason, and no file of a lower rank has a bad line.
-pub record IsLowestBad (wrong : List ℕ → Option LineWhy) (files : List (List ℕ)) (rank line : ℕ) (why : LineWhy) : Type 0 where
+pub record IsLowestBad (wrong : List ℕ → Option LineWhy) (files : List (List ℕ))
+    (rank line : ℕ) (why : LineWhy) : Type 0 where
   pub file : List ℕ
   pub file_is : slice_get files rank ≡ Some file
   pub bad : first_wrong wrong (raw_lines file) ≡ Some (line, why)
-  pub good_below : (lower : ℕ) (other : List ℕ) → lower < rank → slice_get files lower ≡ Some other → first_wrong wrong (raw_lines other) ≡ None
+  pub good_below : (lower : ℕ) (other : List ℕ) → lower < rank → slice_get files lower ≡ Some other
+      → first_wrong wrong (raw_lines other) ≡ None

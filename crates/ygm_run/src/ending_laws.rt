@@ -24,7 +24,8 @@ pub fn only_memory_can_run_out<S: Source>()
         ∷ inputs tally_wrong S.left S.faults contents sources
         ∷ writes writing writing_now
         ∷ []) status
-        → IsOk order → AreExposed contents bytes → tally_verdict bytes ≡ Text text → letters_bound (lines_of_each bytes) ≤ most_letters
+        → IsOk order → AreExposed contents bytes → tally_verdict bytes ≡ Text text
+        → letters_bound (lines_of_each bytes) ≤ most_letters
         → (Rose opening opening_now → ⊥) → (Rose writing writing_now → ⊥)
         → ((rank : ℕ) (source : S) → slice_get sources rank ≡ Some source → S.faults source ≡ 0)
         → (status ≡ Done) ⊎ (status ≡ NoMemory) }

@@ -24,8 +24,10 @@ pub fn one_cr_is_dropped()
 pub fn the_first_bad_line()
     ensures number { (raws : List (List ℕ)) (number : ℕ) → (first_too_long raws ≡ Some number) ↔ IsFirstTooLong raws number }
     ensures no_number { (raws : List (List ℕ)) → (first_too_long raws ≡ None) ↔ AreShort raws }
-    ensures why { (raws : List (List ℕ)) (number : ℕ) → (first_too_long raws ≡ Some number) → first_wrong tally_wrong raws ≡ Some (number, TooLong) }
+    ensures why { (raws : List (List ℕ)) (number : ℕ) → first_too_long raws ≡ Some number
+        → first_wrong tally_wrong raws ≡ Some (number, TooLong) }
     ensures no_why { (raws : List (List ℕ)) → first_too_long raws ≡ None → first_wrong tally_wrong raws ≡ None }
-    ensures good { (raws : List (List ℕ)) (number : ℕ) (first : IsFirstTooLong raws number) → good_lines tally_wrong raws ≡ first.before }
+    ensures good { (raws : List (List ℕ)) (number : ℕ) (first : IsFirstTooLong raws number)
+        → good_lines tally_wrong raws ≡ first.before }
     ensures all_good { (raws : List (List ℕ)) → AreShort raws → good_lines tally_wrong raws ≡ raws }
 {}

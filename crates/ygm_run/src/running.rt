@@ -43,12 +43,16 @@ fn open_all<F: Files>(
 ) -> Result<(), Status>
     requires few { length names.now ≤ max_ranks }
     requires none { sources.old.items ≡ [] }
-    ensures opened { map F.Src.left sources.new.items ≡ map (F.content files.old) (take (length sources.new.items) (texts_of names.now)) }
+    ensures opened { map F.Src.left sources.new.items
+        ≡ map (F.content files.old) (take (length sources.new.items) (texts_of names.now)) }
     ensures fresh { (rank : ℕ) (source : F.Src) → slice_get sources.new.items rank ≡ Some source → F.Src.faults source ≡ 0 }
     ensures within { length sources.new.items ≤ length names.now }
-    ensures passes { OnOk result (opens F.Src.left F.Src.faults (map (F.content files.old) (texts_of names.now)) sources.new.items (F.faults files.old) (F.faults files.new)).passes }
-    ensures cause { IfErr result (λ status. (status ≡ Status.NoMemory)
-        ⊎ (opens F.Src.left F.Src.faults (map (F.content files.old) (texts_of names.now)) sources.new.items (F.faults files.old) (F.faults files.new)).refuses status) }
+    ensures passes { let contents = map (F.content files.old) (texts_of names.now) in
+        let stage = opens F.Src.left F.Src.faults contents sources.new.items (F.faults files.old) (F.faults files.new) in
+        OnOk result stage.passes }
+    ensures cause { let contents = map (F.content files.old) (texts_of names.now) in
+        let stage = opens F.Src.left F.Src.faults contents sources.new.items (F.faults files.old) (F.faults files.new) in
+        IfErr result (λ status. (status ≡ Status.NoMemory) ⊎ stage.refuses status) }
     ensures content_stands { (name : List ℕ) → F.content files.new name ≡ F.content files.old name }
 {
     for (file, name) in names.iter().enumerate() {
@@ -113,7 +117,8 @@ fn run_tally<F: Files, O: Sink>(
         ∷ inputs tally_wrong F.Src.left F.Src.faults contents sources
         ∷ writes (O.faults out.old) (O.faults out.new)
         ∷ []) result.status }
-    ensures text { OfText (map (F.content files.old) (texts_of names.now)) (λ text. IsWritten result.status text (O.holds out.old) (O.holds out.new)) }
+    ensures text { OfText (map (F.content files.old) (texts_of names.now)) (λ text.
+        IsWritten result.status text (O.holds out.old) (O.holds out.new)) }
     ensures nothing_written { may_write result.status ≡ false → out.new ≡ out.old }
     ensures within { length result.sources.items ≤ length names.now }
     ensures rests { AreRests F.Src.left (map (F.content files.old) (texts_of names.now)) result.sources.items }
@@ -176,21 +181,25 @@ pub fn run<F: Files, O: Sink, N: Sink>(
         ∷ writes (O.faults out.old) (O.faults out.new)
         ∷ []) result.status }
     // Refused words always end so, even for lack of memory, and leave the files unchanged.
-    ensures refused_words { IfErr (order_of (texts_of words.now)) (λ kind. (result.status ≡ Status.Usage kind) × (files.new ≡ files.old)) }
+    ensures refused_words { IfErr (order_of (texts_of words.now)) (λ kind.
+        (result.status ≡ Status.Usage kind) × (files.new ≡ files.old)) }
     // If the files expose their bytes, these decide the text that is written, whole or in part, and the bad line.
-    ensures text { (bytes : List (List ℕ)) → AreExposed (map (F.content files.old) (named (order_of (texts_of words.now)))) bytes
+    ensures text { (bytes : List (List ℕ))
+        → AreExposed (map (F.content files.old) (named (order_of (texts_of words.now)))) bytes
         → FollowsVerdict (tally_verdict bytes) result.status (O.holds out.old) (O.holds out.new) }
     // Unless the status is `Done` or `WriteFault`, `out` is unchanged: nothing was written, and no write failed.
     ensures nothing_written { may_write result.status ≡ false → out.new ≡ out.old }
     // A run that is done has read each file to its end.
-    ensures nothing_left { result.status ≡ Status.Done
-        → (rank : ℕ) (source : F.Src) → slice_get result.sources.items rank ≡ Some source → NothingLeft (F.Src.left source) }
+    ensures nothing_left { result.status ≡ Status.Done → (rank : ℕ) (source : F.Src)
+        → slice_get result.sources.items rank ≡ Some source → NothingLeft (F.Src.left source) }
     // There are at most as many sources as files, and what remains of each is a suffix of its file.
     ensures sources { let names = named (order_of (texts_of words.now)) in
-        (length result.sources.items ≤ length names) × AreRests F.Src.left (map (F.content files.old) names) result.sources.items }
+        (length result.sources.items ≤ length names)
+        × AreRests F.Src.left (map (F.content files.old) names) result.sources.items }
     ensures content_stands { (name : List ℕ) → F.content files.new name ≡ F.content files.old name }
     // The status's note was written, whole unless a write of it failed.
-    ensures noted { IsNoted N.holds N.faults notes.old notes.new (note_text result.status (named (order_of (texts_of words.now)))) }
+    ensures noted { IsNoted N.holds N.faults notes.old notes.new
+        (note_text result.status (named (order_of (texts_of words.now)))) }
 {
     match read_words(words) {
         Ok(order) => {

@@ -1,7 +1,13 @@
 //! Whole runs over objects in memory: that they succeed with ample memory, and worked examples.
+use crate::ending_laws::only_memory_can_run_out;
+use crate::limit_laws::the_limits_are_these_numbers;
+use crate::line_laws::{lines_end_at_lf, one_cr_is_dropped, the_first_bad_line};
 use crate::run;
 use crate::status::{Ended, LineWhy, Status};
+use crate::tally_text::{each_line_has_its_row, one_table, order_is_free};
+use crate::verdict_laws::the_verdict_is_the_lowest_bad_line_or_the_text;
 use crate::words::UsageKind;
+use crate::words_laws::{the_refusal_is_the_first_that_holds, words_that_are_accepted};
 use std::alloc::{AllocError, Global};
 use std::process::Abort;
 use std::test::Fail;
@@ -302,4 +308,19 @@ fn notes_that_fail_change_no_status(rt: HostRuntime) -> Result<(), Fail> {
     assert_eq!(rt; ended.status, Status::ReadFault { rank: 0 });
     assert_eq!(rt; notes.bytes(), b"ygm_run: ".as_slice());
     Ok(())
+}
+
+#[test]
+fn the_laws_can_be_cited() {
+    each_line_has_its_row();
+    lines_end_at_lf();
+    one_cr_is_dropped();
+    one_table();
+    only_memory_can_run_out::<MemSource>();
+    order_is_free();
+    the_first_bad_line();
+    the_limits_are_these_numbers();
+    the_refusal_is_the_first_that_holds();
+    the_verdict_is_the_lowest_bad_line_or_the_text();
+    words_that_are_accepted();
 }

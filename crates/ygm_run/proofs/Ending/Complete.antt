@@ -1,5 +1,5 @@
 -- Where nothing fails, only memory can run out.
-use Rattle.std.proofs.Common.{◌≡◌, ◌⊎◌, ℕ, ◌<◌, ◌≤◌, true, List, [], ◌∷◌, Some, None, Option, IfSome, IsOk, Result, Ok, Err, length, get_or, map, slice_get, refl, ap, sym, ◌∙◌, subst, arith, inl, inr}
+use Rattle.std.proofs.Common.{◌≡◌, ◌⊎◌, ℕ, ◌<◌, ◌≤◌, List, [], Some, None, Option, IfSome, IsOk, Result, Ok, Err, length, get_or, slice_get, refl, ap, sym, ◌∙◌, subst, arith, inl, inr}
 use Rattle.std.specs.Option.{option_map}
 use Rattle.std.proofs.lemmas.List.{length-map}
 use Rattle.std.proofs.lemmas.List.Folds.{length-flat_map-take}
@@ -14,19 +14,20 @@ use Rattle.ygm_run.specs.declared.status.Status.{Status}
 use Rattle.ygm_run.specs.declared.status.Status.TheVariants.{Done, NoMemory}
 use Rattle.ygm_run.specs.declared.words.UsageKind.{UsageKind}
 use Rattle.ygm_run.specs.BadLines.{first_wrong, good_lines, tally_wrong}
-use Rattle.ygm_run.specs.Ending.{Ends, counts, inputs, opens, words, writes}
 use Rattle.ygm_run.specs.Inputs.{IsFullAtRank, IsLowestFault, IsRead}
 use Rattle.ygm_run.specs.Job.{AreExposed, letters_bound, lines_of_each}
 use Rattle.ygm_run.specs.Lines.{lines_of, raw_lines, text_of}
 use Rattle.ygm_run.specs.TallyText.{all_lines, tally_text}
 use Rattle.ygm_run.specs.Verdict.{Text, first_bad, tally_verdict}
-use Rattle.ygm_run.proofs.Ending.Follows.{bad_line_of, file_at, item_at, source_at}
+use Rattle.ygm_run.proofs.Ending.Follows.{file_at, item_at, source_at}
+use Rattle.ygm_run.proofs.Ending.Stages.{RunEnds}
 use Rattle.ygm_run.proofs.Inputs.GoodLines.{few_good}
 use Rattle.ygm_run.proofs.Verdict.FirstBad.{none_at, none_of_text}
 use Rattle.list_facts.proofs.Places.{same_item}
 
 -- the lines of one file are among all
-few_lines : (files : List (List ℕ)) (rank : ℕ) (file : List ℕ) → slice_get files rank ≡ Some file → length (good_lines tally_wrong (raw_lines file)) ≤ length (all_lines (lines_of_each files))
+few_lines : (files : List (List ℕ)) (rank : ℕ) (file : List ℕ) → slice_get files rank ≡ Some file
+    → length (good_lines tally_wrong (raw_lines file)) ≤ length (all_lines (lines_of_each files))
 few_lines files rank file at =
     let texts = lines_of_each files in
     let mine : get_or texts rank [] ≡ lines_of file = get_or_from_slice_get texts rank (lines_of file) [] (slice_get-map lines_of files rank ∙ ap (option_map lines_of) at) in
@@ -45,19 +46,22 @@ not_both (Err other) kind ok is = cc
 
 module _ {S : Type 0} (left : S → ExposedBytes) (faults : S → ℕ) (contents : List ExposedBytes) (sources : List S) (files : List (List ℕ)) (exposed : AreExposed contents files) where
   -- no input has a fault where no read failed and no line is bad
-  no_fault : (rank : ℕ) (found : InputFault) → first_bad tally_wrong files ≡ None → ((place : ℕ) (source : S) → slice_get sources place ≡ Some source → faults source ≡ 0)
+  no_fault : (rank : ℕ) (found : InputFault) → first_bad tally_wrong files ≡ None
+      → ((place : ℕ) (source : S) → slice_get sources place ≡ Some source → faults source ≡ 0)
       → length sources ≡ length contents → IsLowestFault tally_wrong left faults contents sources rank found → ⊥
   no_fault rank found good calm all lowest =
       let file = item_at files rank (omega (arith, lowest.within, all, ap length exposed, length-map files Some)) in
       let source = source_at tally_wrong left faults contents files sources exposed all rank file.0 file.1 in
       let read = subst (IsRead tally_wrong left faults (Some file.0) source.0) lowest.here (lowest.read rank (Some file.0) source.0 (file_at contents files rank file.0 exposed file.1) source.1) in
       none found source.0 file.0 read (calm rank source.0 source.1) (none_at tally_wrong files good rank file.0 file.1) where
-        none : (fault : InputFault) (source : S) (file : List ℕ) → IsRead tally_wrong left faults (Some file) source (Some fault) → faults source ≡ 0 → first_wrong tally_wrong (raw_lines file) ≡ None → ⊥
+        none : (fault : InputFault) (source : S) (file : List ℕ) → IsRead tally_wrong left faults (Some file) source (Some fault)
+            → faults source ≡ 0 → first_wrong tally_wrong (raw_lines file) ≡ None → ⊥
         none Read source file read calm good = omega (arith, read.read.0 refl, calm)
         none (BadInput line why) source file read calm good = some_or_none (line, why) (first_wrong tally_wrong (raw_lines file)) (sym (read.bad calm)) good
 
   -- no count is full where the lines of all files are few
-  no_full : (rank limit : ℕ) → letters_bound (lines_of_each files) ≤ most_letters → IsFullAtRank tally_wrong left faults contents sources rank limit → ⊥
+  no_full : (rank limit : ℕ) → letters_bound (lines_of_each files) ≤ most_letters
+      → IsFullAtRank tally_wrong left faults contents sources rank limit → ⊥
   no_full rank limit few full =
       let within : rank < length contents = slice_get_within contents rank full.content full.content_is in
       let file = item_at files rank (omega (arith, within, ap length exposed, length-map files Some)) in
@@ -67,15 +71,17 @@ module _ {S : Type 0} (left : S → ExposedBytes) (faults : S → ℕ) (contents
 
   -- where nothing fails, no line is bad and the lines are few, a run is done or out of memory
   pub done_or_no_memory : (order : Result (List (List ℕ)) UsageKind) (opening opening_now writing writing_now : ℕ) (status : Status)
-      → Ends (words order sources ∷ opens left faults contents sources opening opening_now ∷ counts tally_wrong left faults contents sources ∷ inputs tally_wrong left faults contents sources ∷ writes writing writing_now ∷ []) status
+      → RunEnds tally_wrong left faults order contents sources opening opening_now writing writing_now status
       → IsOk order → (text : List ℕ) → tally_verdict files ≡ Text text → letters_bound (lines_of_each files) ≤ most_letters
-      → (Rose opening opening_now → ⊥) → (Rose writing writing_now → ⊥) → ((rank : ℕ) (source : S) → slice_get sources rank ≡ Some source → faults source ≡ 0)
-      → (status ≡ Done) ⊎ (status ≡ NoMemory)
-  done_or_no_memory order opening opening_now writing writing_now status (inl none) ok text is few no_open no_write calm = inr none
-  done_or_no_memory order opening opening_now writing writing_now status (inr (inl (kind, same, refused, unopened))) ok text is few no_open no_write calm = absurd (not_both order kind ok refused)
-  done_or_no_memory order opening opening_now writing writing_now status (inr (inr (ok_words, inl (file, same, first, rose)))) ok text is few no_open no_write calm = absurd (no_open rose)
-  done_or_no_memory order opening opening_now writing writing_now status (inr (inr (ok_words, inr (opened, inl (rank, limit, same, full))))) ok text is few no_open no_write calm = absurd (no_full rank limit few full)
-  done_or_no_memory order opening opening_now writing writing_now status (inr (inr (ok_words, inr (opened, inr (any, inl (rank, found, same, lowest)))))) ok text is few no_open no_write calm =
-      absurd (no_fault rank found (none_of_text (first_bad tally_wrong files) (tally_text (lines_of_each files)) text is) calm opened.0 lowest)
-  done_or_no_memory order opening opening_now writing writing_now status (inr (inr (ok_words, inr (opened, inr (any, inr (read, inl (same, rose))))))) ok text is few no_open no_write calm = absurd (no_write rose)
-  done_or_no_memory order opening opening_now writing writing_now status (inr (inr (ok_words, inr (opened, inr (any, inr (read, inr (stands, done))))))) ok text is few no_open no_write calm = inl done
+      → (Rose opening opening_now → ⊥) → (Rose writing writing_now → ⊥)
+      → ((rank : ℕ) (source : S) → slice_get sources rank ≡ Some source → faults source ≡ 0) → (status ≡ Done) ⊎ (status ≡ NoMemory)
+  done_or_no_memory order opening opening_now writing writing_now status ends ok text is few no_open no_write calm = of ends where
+    of : RunEnds tally_wrong left faults order contents sources opening opening_now writing writing_now status → (status ≡ Done) ⊎ (status ≡ NoMemory)
+    of (inl none) = inr none
+    of (inr (inl (kind, same, refused, unopened))) = absurd (not_both order kind ok refused)
+    of (inr (inr (accepted, inl (file, same, first, rose)))) = absurd (no_open rose)
+    of (inr (inr (accepted, inr (opened, inl (rank, limit, same, full))))) = absurd (no_full rank limit few full)
+    of (inr (inr (accepted, inr (opened, inr (any, inl (rank, found, same, lowest)))))) =
+        absurd (no_fault rank found (none_of_text (first_bad tally_wrong files) (tally_text (lines_of_each files)) text is) calm opened.0 lowest)
+    of (inr (inr (accepted, inr (opened, inr (any, inr (read, inl (same, rose))))))) = absurd (no_write rose)
+    of (inr (inr (accepted, inr (opened, inr (any, inr (read, inr (stands, done))))))) = inl done

@@ -1,5 +1,5 @@
 -- What the verdict decides of a run.
-use Rattle.std.proofs.Common.{◌≡◌, ◌⊎◌, ℕ, ◌+◌, ◌<◌, ◌≤◌, Bool, true, false, List, [], ◌∷◌, Some, None, Option, IfSome, Result, Ok, Err, length, map, slice_get, refl, ap, sym, ◌∙◌, subst, arith, inl, inr}
+use Rattle.std.proofs.Common.{◌≡◌, ◌⊎◌, ℕ, ◌<◌, ◌≤◌, false, List, Some, None, Option, length, slice_get, refl, ap, sym, ◌∙◌, subst, arith, inl, inr}
 use Rattle.std.specs.Option.{option_map}
 use Rattle.std.proofs.lemmas.Bool.{cases_lt}
 use Rattle.std.proofs.lemmas.List.{length-map}
@@ -9,26 +9,28 @@ use Rattle.ygm_run.specs.declared.status.InputFault.{InputFault}
 use Rattle.ygm_run.specs.declared.status.InputFault.TheVariants.{Read, Bad as BadInput}
 use Rattle.ygm_run.specs.declared.status.LineWhy.{LineWhy}
 use Rattle.ygm_run.specs.declared.status.Status.{Status}
-use Rattle.ygm_run.specs.declared.status.Status.TheVariants.{BadLine, NoMemory}
+use Rattle.ygm_run.specs.declared.status.Status.TheVariants.{BadLine}
 use Rattle.ygm_run.specs.BadLines.{first_wrong, tally_wrong}
 use Rattle.ygm_run.specs.Ending.{FollowsVerdict, IsWritten, may_write}
 use Rattle.ygm_run.specs.Inputs.{AllRead, IsLowestFault, IsRead, bad_line}
 use Rattle.ygm_run.specs.Job.{AreExposed, lines_of_each}
 use Rattle.ygm_run.specs.Lines.{raw_lines}
 use Rattle.ygm_run.specs.TallyText.{tally_text}
-use Rattle.ygm_run.specs.Verdict.{Verdict, Bad, Text, bad_or_text, first_bad, tally_verdict}
+use Rattle.ygm_run.specs.Verdict.{Verdict, bad_or_text, first_bad, tally_verdict}
 use Rattle.ygm_run.proofs.Ending.Stages.{FilesEnd, lowest_if_bad, read_if_written, unlike}
 use Rattle.ygm_run.proofs.Verdict.FirstBad.{first_bad_at, none_bad}
 
 -- a run that neither writes nor reports a bad line follows any verdict
-pub follows_any : (verdict : Verdict) (status : Status) (before now : ExposedBytes) → may_write status ≡ false → ((rank line : ℕ) (why : LineWhy) → status ≡ BadLine rank line why → ⊥) → FollowsVerdict verdict status before now
+pub follows_any : (verdict : Verdict) (status : Status) (before now : ExposedBytes) → may_write status ≡ false → ((rank line : ℕ) (why : LineWhy)
+    → status ≡ BadLine rank line why → ⊥) → FollowsVerdict verdict status before now
 follows_any verdict status before now unwritten other = record {
   written = λ may. absurd (unlike status status refl unwritten may);
   bad_line = λ rank line why is. absurd (other rank line why is);
 }
 
 -- the bytes of a file
-pub file_at : (contents : List ExposedBytes) (files : List (List ℕ)) (rank : ℕ) (file : List ℕ) → AreExposed contents files → slice_get files rank ≡ Some file → slice_get contents rank ≡ Some (Some file)
+pub file_at : (contents : List ExposedBytes) (files : List (List ℕ)) (rank : ℕ) (file : List ℕ) → AreExposed contents files
+    → slice_get files rank ≡ Some file → slice_get contents rank ≡ Some (Some file)
 file_at contents files rank file exposed at = ap (λ (w : List ExposedBytes). slice_get w rank) exposed ∙ slice_get-map Some files rank ∙ ap (option_map Some) at
 
 -- the item of a list at a place within it
@@ -40,7 +42,8 @@ item_at xs place within = elim (slice_get_cases xs place).1 [
 
 module _ {S : Type 0} (wrong : List ℕ → Option LineWhy) (left : S → ExposedBytes) (faults : S → ℕ) where
   -- where no read of a file failed, its bytes decide its bad line
-  pub bad_line_of : (file : List ℕ) (source : S) (fault : Option InputFault) → IsRead wrong left faults (Some file) source fault → (fault ≡ Some Read → ⊥) → bad_line fault ≡ first_wrong wrong (raw_lines file)
+  pub bad_line_of : (file : List ℕ) (source : S) (fault : Option InputFault) → IsRead wrong left faults (Some file) source fault
+      → (fault ≡ Some Read → ⊥) → bad_line fault ≡ first_wrong wrong (raw_lines file)
   bad_line_of file source fault read sound = read.bad (none (cases_lt 0 (faults source))) where
     none : (0 < faults source) ⊎ (faults source ≤ 0) → faults source ≡ 0
     none (inl some) = absurd (sound (read.read.1 some))
@@ -60,7 +63,8 @@ module _ {S : Type 0} (wrong : List ℕ → Option LineWhy) (left : S → Expose
         sym (bad_line_of file source.0 None (read rank (Some file) source.0 (file_at contents files rank file exposed at) source.1) (λ e. absurd cc)))
 
     -- the bad line that is reported is the one that the bytes decide
-    pub bad_if_lowest : (rank line : ℕ) (why : LineWhy) → IsLowestFault wrong left faults contents sources rank (BadInput line why) → first_bad wrong files ≡ Some (rank, (line, why))
+    pub bad_if_lowest : (rank line : ℕ) (why : LineWhy) → IsLowestFault wrong left faults contents sources rank (BadInput line why)
+        → first_bad wrong files ≡ Some (rank, (line, why))
     bad_if_lowest rank line why lowest =
         let file = item_at files rank (omega (arith, lowest.within, all, ap length exposed, length-map files Some)) in
         let source = source_at rank file.0 file.1 in
@@ -73,9 +77,11 @@ module _ {S : Type 0} (wrong : List ℕ → Option LineWhy) (left : S → Expose
         file.1 (sym (bad_line_of file.0 source.0 (Some (BadInput line why)) here (λ e. absurd cc)))
 
 -- a run of tally writes the verdict's text, or reports the verdict's bad line
-pub follows : {S : Type 0} (left : S → ExposedBytes) (faults : S → ℕ) (contents : List ExposedBytes) (sources : List S) (opening opening_now writing writing_now : ℕ) (status : Status) (before now : ExposedBytes)
+pub follows : {S : Type 0} (left : S → ExposedBytes) (faults : S
+    → ℕ) (contents : List ExposedBytes) (sources : List S) (opening opening_now writing writing_now : ℕ) (status : Status) (before now : ExposedBytes)
     → FilesEnd tally_wrong left faults contents sources opening opening_now writing writing_now status
-    → (files : List (List ℕ)) → AreExposed contents files → IsWritten status (tally_text (lines_of_each files)) before now → FollowsVerdict (tally_verdict files) status before now
+    → (files : List (List ℕ)) → AreExposed contents files → IsWritten status (tally_text (lines_of_each files)) before now
+    → FollowsVerdict (tally_verdict files) status before now
 follows left faults contents sources opening opening_now writing writing_now status before now ends files exposed written = record {
   written = λ may.
       let read = read_if_written tally_wrong left faults contents sources opening opening_now writing writing_now status ends may in

@@ -12,7 +12,8 @@ use Rattle.ygm_run.proofs.Inputs.IsRest.{rest_none}
 
 module _ {S : Type 0} (left : S → ExposedBytes) where
   -- one more of the names was opened
-  pub opened_more : (content : List ℕ → ExposedBytes) (names : List (List ℕ)) (k : ℕ) (old now : List S) (source : S) (name : List ℕ) → now ≡ old ++ source ∷ [] → map left old ≡ map content (take k names) → slice_get names k ≡ Some name → left source ≡ content name
+  pub opened_more : (content : List ℕ → ExposedBytes) (names : List (List ℕ)) (k : ℕ) (old now : List S) (source : S) (name : List ℕ)
+      → now ≡ old ++ source ∷ [] → map left old ≡ map content (take k names) → slice_get names k ≡ Some name → left source ≡ content name
       → map left now ≡ map content (take (k + 1) names)
   opened_more content names k old now source name pushed before at is =
       ap (map left) pushed ∙ map-append left old (source ∷ []) ∙ ap (λ w. w ++ left source ∷ []) before ∙ ap (λ x. map content (take k names) ++ x ∷ []) is
@@ -33,7 +34,8 @@ module _ {S : Type 0} (left : S → ExposedBytes) where
         in_front (y ∷ ys) (suc i) (suc j) x e = in_front ys i j x e
 
   -- the content of a source's file
-  pub content_of : (contents : List ExposedBytes) (sources : List S) (rank : ℕ) (source : S) → length sources ≡ length contents → slice_get sources rank ≡ Some source → (file : ExposedBytes) × (slice_get contents rank ≡ Some file)
+  pub content_of : (contents : List ExposedBytes) (sources : List S) (rank : ℕ) (source : S) → length sources ≡ length contents
+      → slice_get sources rank ≡ Some source → (file : ExposedBytes) × (slice_get contents rank ≡ Some file)
   content_of contents sources rank source all at =
       let within : rank < length sources = slice_get_within sources rank source at in
       elim (slice_get_cases contents rank).1 [
@@ -42,7 +44,8 @@ module _ {S : Type 0} (left : S → ExposedBytes) where
       ]
 
   -- where all files were read to their ends, nothing remains
-  pub nothing_left_of : (wrong : List ℕ → Option LineWhy) (faults : S → ℕ) (contents : List ExposedBytes) (sources : List S) → length sources ≡ length contents → AllRead wrong left faults contents sources
+  pub nothing_left_of : (wrong : List ℕ → Option LineWhy) (faults : S → ℕ) (contents : List ExposedBytes) (sources : List S)
+      → length sources ≡ length contents → AllRead wrong left faults contents sources
       → (rank : ℕ) (source : S) → slice_get sources rank ≡ Some source → NothingLeft (left source)
   nothing_left_of wrong faults contents sources all read rank source at =
       let file = content_of contents sources rank source all at in

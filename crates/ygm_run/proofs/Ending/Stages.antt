@@ -1,15 +1,15 @@
 -- Ends of runs, stage by stage.
-use Rattle.std.proofs.Common.{◌≡◌, ◌⊎◌, ℕ, ◌<◌, Bool, true, false, List, [], ◌∷◌, Some, None, Option, Result, Ok, Err, length, map, slice_get, refl, ap, sym, ◌∙◌, subst, inl, inr}
-use Rattle.ygm_io.specs.Content.{ExposedBytes, NothingLeft}
+use Rattle.std.proofs.Common.{◌≡◌, ℕ, ◌<◌, true, false, List, [], ◌∷◌, Option, Result, Ok, length, map, refl, ap, sym, ◌∙◌, subst, inl, inr}
+use Rattle.ygm_io.specs.Content.{ExposedBytes}
 use Rattle.ygm_run.specs.declared.status.InputFault.{InputFault}
 use Rattle.ygm_run.specs.declared.status.InputFault.TheVariants.{Read, Bad}
 use Rattle.ygm_run.specs.declared.status.LineWhy.{LineWhy}
 use Rattle.ygm_run.specs.declared.status.Status.{Status}
-use Rattle.ygm_run.specs.declared.status.Status.TheVariants.{Done, Usage, OpenFault, ReadFault, BadLine, WriteFault, NoMemory, CountFull}
+use Rattle.ygm_run.specs.declared.status.Status.TheVariants.{Done, OpenFault, ReadFault, BadLine, WriteFault, NoMemory, CountFull}
 use Rattle.ygm_run.specs.declared.tally.JobFault.{JobFault}
 use Rattle.ygm_run.specs.declared.tally.JobFault.TheVariants.{Input as JobInput, CountFull as JobFull, NoMemory as JobNoMemory}
 use Rattle.ygm_run.specs.declared.words.UsageKind.{UsageKind}
-use Rattle.ygm_run.specs.Ending.{Ends, EndsIn, IsWritten, Stage, counts, inputs, may_write, of_input, opens, words, writes}
+use Rattle.ygm_run.specs.Ending.{Ends, IsWritten, Stage, counts, inputs, may_write, of_input, opens, words, writes}
 use Rattle.ygm_run.specs.Inputs.{AllRead, IsLowestFault}
 use Rattle.ygm_run.specs.JobEnds.{JobStops, status_of}
 use Rattle.ygm_run.specs.Words.{named}
@@ -18,11 +18,6 @@ use Rattle.ygm_run.specs.Words.{named}
 pub passed : (stage : Stage) (later : List Stage) (status : Status) → stage.passes → Ends later status → Ends (stage ∷ later) status
 passed stage later status passes (inl none) = inl none
 passed stage later status passes (inr ends) = inr (inr (passes, ends))
-
--- the run ended at this stage, or for lack of memory
-pub refused : (stage : Stage) (later : List Stage) (status : Status) → (status ≡ NoMemory) ⊎ stage.refuses status → Ends (stage ∷ later) status
-refused stage later status (inl none) = inl none
-refused stage later status (inr refuses) = inr (inl refuses)
 
 -- a status that isn't one of a run that writes
 pub unlike : (status other : Status) → status ≡ other → may_write other ≡ false → may_write status ≡ true → ⊥
@@ -49,26 +44,44 @@ of_input_opened : (rank file : ℕ) (found : InputFault) → of_input rank found
 of_input_opened rank file Read e = cc
 of_input_opened rank file (Bad line why) e = cc
 
-of_input_line : (rank other line : ℕ) (why : LineWhy) (found : InputFault) → of_input other found ≡ BadLine rank line why → (other ≡ rank) × (found ≡ Bad line why)
+of_input_line : (rank other line : ℕ) (why : LineWhy) (found : InputFault) → of_input other found ≡ BadLine rank line why
+    → (other ≡ rank) × (found ≡ Bad line why)
 of_input_line rank other line why Read e = absurd (let f : ReadFault other ≡ BadLine rank line why = e in cc)
 of_input_line rank other line why (Bad at reason) e = let f : BadLine other at reason ≡ BadLine rank line why = e in (cc, cc)
 
+-- how a run ended behind the words, over files of these contents
+abbrev pub FilesEnd : {S : Type 0} → (List ℕ → Option LineWhy) → (S → ExposedBytes) → (S → ℕ) → List ExposedBytes → List S
+    → (opening opening_now writing writing_now : ℕ) → Status → Type 0
+FilesEnd wrong left faults contents sources opening opening_now writing writing_now status =
+    Ends (opens left faults contents sources opening opening_now ∷ counts wrong left faults contents sources
+    ∷ inputs wrong left faults contents sources ∷ writes writing writing_now ∷ []) status
+
+-- the same, with the words
+abbrev pub RunEnds : {S : Type 0} → (List ℕ → Option LineWhy) → (S → ExposedBytes) → (S → ℕ) → Result (List (List ℕ)) UsageKind → List ExposedBytes → List S
+    → (opening opening_now writing writing_now : ℕ) → Status → Type 0
+RunEnds wrong left faults order contents sources opening opening_now writing writing_now status =
+    Ends (words order sources ∷ opens left faults contents sources opening opening_now ∷ counts wrong left faults contents sources
+    ∷ inputs wrong left faults contents sources ∷ writes writing writing_now ∷ []) status
+
 module _ {S : Type 0} (wrong : List ℕ → Option LineWhy) (left : S → ExposedBytes) (faults : S → ℕ) where
   -- a job that has read all files passes its two stages
-  pub job_read : (contents : List ExposedBytes) (sources : List S) (later : List Stage) (status : Status) → AllRead wrong left faults contents sources → Ends later status
+  pub job_read : (contents : List ExposedBytes) (sources : List S) (later : List Stage) (status : Status)
+      → AllRead wrong left faults contents sources → Ends later status
       → Ends (counts wrong left faults contents sources ∷ inputs wrong left faults contents sources ∷ later) status
   job_read contents sources later status read ends =
       passed (counts wrong left faults contents sources) (inputs wrong left faults contents sources ∷ later) status tt (passed (inputs wrong left faults contents sources) later status read ends)
 
   -- a job that stops ends at one of them
-  pub job_stopped : (contents : List ExposedBytes) (sources : List S) (later : List Stage) (fault : JobFault) (status : Status) → status ≡ status_of fault → JobStops wrong left faults contents sources fault
+  pub job_stopped : (contents : List ExposedBytes) (sources : List S) (later : List Stage) (fault : JobFault) (status : Status)
+      → status ≡ status_of fault → JobStops wrong left faults contents sources fault
       → Ends (counts wrong left faults contents sources ∷ inputs wrong left faults contents sources ∷ later) status
   job_stopped contents sources later (JobInput rank found) status same stops = inr (inr (tt, inl (rank, found, same, stops)))
   job_stopped contents sources later (JobFull rank at) status same stops = inr (inl (rank, at, same, stops))
   job_stopped contents sources later JobNoMemory status same stops = inl same
 
   -- a job ends so over the same files and sources
-  pub job_over : (contents others : List ExposedBytes) (sources after : List S) (later : List Stage) (status : Status) → others ≡ contents → after ≡ sources
+  pub job_over : (contents others : List ExposedBytes) (sources after : List S) (later : List Stage) (status : Status) → others ≡ contents
+      → after ≡ sources
       → Ends (counts wrong left faults others after ∷ inputs wrong left faults others after ∷ later) status
       → Ends (counts wrong left faults contents sources ∷ inputs wrong left faults contents sources ∷ later) status
   job_over contents others sources after later status same at ends =
@@ -76,24 +89,20 @@ module _ {S : Type 0} (wrong : List ℕ → Option LineWhy) (left : S → Expose
       (subst (λ xs. Ends (counts wrong left faults others xs ∷ inputs wrong left faults others xs ∷ later) status) at ends)
 
   -- the words were accepted, and name these files
-  pub accepted : (order : Result (List (List ℕ)) UsageKind) (names : List (List ℕ)) (content : List ℕ → ExposedBytes) (sources : List S) (opening opening_now writing writing_now : ℕ) (status : Status) → order ≡ Ok names
-      → Ends (opens left faults (map content names) sources opening opening_now ∷ counts wrong left faults (map content names) sources ∷ inputs wrong left faults (map content names) sources ∷ writes writing writing_now ∷ []) status
-      → Ends (words order sources ∷ opens left faults (map content (named order)) sources opening opening_now ∷ counts wrong left faults (map content (named order)) sources
-      ∷ inputs wrong left faults (map content (named order)) sources ∷ writes writing writing_now ∷ []) status
+  pub accepted : (order : Result (List (List ℕ)) UsageKind) (names : List (List ℕ)) (content : List ℕ → ExposedBytes) (sources : List S)
+      (opening opening_now writing writing_now : ℕ) (status : Status) → order ≡ Ok names
+      → FilesEnd wrong left faults (map content names) sources opening opening_now writing writing_now status
+      → RunEnds wrong left faults order (map content (named order)) sources opening opening_now writing writing_now status
   accepted order names content sources opening opening_now writing writing_now status is ends =
-      subst (λ o. Ends (words o sources ∷ opens left faults (map content (named o)) sources opening opening_now ∷ counts wrong left faults (map content (named o)) sources
-      ∷ inputs wrong left faults (map content (named o)) sources ∷ writes writing writing_now ∷ []) status)
-      (sym is)
-      (passed (words (Ok names) sources) (opens left faults (map content names) sources opening opening_now ∷ counts wrong left faults (map content names) sources ∷ inputs wrong left faults (map content names) sources ∷ writes writing writing_now ∷ [])
-      status refl ends)
+      subst (λ o. RunEnds wrong left faults o (map content (named o)) sources opening opening_now writing writing_now status) (sym is) (under ends) where
+        under : FilesEnd wrong left faults (map content names) sources opening opening_now writing writing_now status
+            → RunEnds wrong left faults (Ok names) (map content names) sources opening opening_now writing writing_now status
+        under (inl none) = inl none
+        under (inr later) = inr (inr (refl, later))
 
   module _ (contents : List ExposedBytes) (sources : List S) (opening opening_now writing writing_now : ℕ) (status : Status) where
-    -- the stages behind the words
-    abbrev pub FilesEnd : Type 0
-    FilesEnd = Ends (opens left faults contents sources opening opening_now ∷ counts wrong left faults contents sources ∷ inputs wrong left faults contents sources ∷ writes writing writing_now ∷ []) status
-
     -- a file that couldn't be opened is one of the files
-    pub file_below : FilesEnd → (file : ℕ) → status ≡ OpenFault file → file < length contents
+    pub file_below : FilesEnd wrong left faults contents sources opening opening_now writing writing_now status → (file : ℕ) → status ≡ OpenFault file → file < length contents
     file_below (inl none) file is = absurd (let e : NoMemory ≡ OpenFault file = sym none ∙ is in cc)
     file_below (inr (inl (other, same, first, rose))) file is = let e : OpenFault other ≡ OpenFault file = sym same ∙ is in let f : other ≡ file = cc in subst (λ k. k < length contents) f first.within
     file_below (inr (inr (opened, inl (rank, limit, same, full)))) file is = absurd (let e : CountFull rank limit ≡ OpenFault file = sym same ∙ is in cc)
@@ -102,7 +111,7 @@ module _ {S : Type 0} (wrong : List ℕ → Option LineWhy) (left : S → Expose
     file_below (inr (inr (opened, inr (any, inr (read, inr (stands, done)))))) file is = absurd (let e : Done ≡ OpenFault file = sym done ∙ is in cc)
 
     -- a run that writes has opened all files and read them to their ends
-    pub read_if_written : FilesEnd → may_write status ≡ true → (length sources ≡ length contents) × AllRead wrong left faults contents sources
+    pub read_if_written : FilesEnd wrong left faults contents sources opening opening_now writing writing_now status → may_write status ≡ true → (length sources ≡ length contents) × AllRead wrong left faults contents sources
     read_if_written (inl none) written = absurd (unlike status NoMemory none refl written)
     read_if_written (inr (inl (file, same, first, rose))) written = absurd (unlike status (OpenFault file) same refl written)
     read_if_written (inr (inr (opened, inl (rank, limit, same, full)))) written = absurd (unlike status (CountFull rank limit) same refl written)
@@ -110,7 +119,8 @@ module _ {S : Type 0} (wrong : List ℕ → Option LineWhy) (left : S → Expose
     read_if_written (inr (inr (opened, inr (any, inr (read, last))))) written = (opened.0, read)
 
     -- a bad line that is reported is the fault of the lowest rank with one
-    pub lowest_if_bad : FilesEnd → (rank line : ℕ) (why : LineWhy) → status ≡ BadLine rank line why → (length sources ≡ length contents) × IsLowestFault wrong left faults contents sources rank (Bad line why)
+    pub lowest_if_bad : FilesEnd wrong left faults contents sources opening opening_now writing writing_now status → (rank line : ℕ) (why : LineWhy) → status ≡ BadLine rank line why
+        → (length sources ≡ length contents) × IsLowestFault wrong left faults contents sources rank (Bad line why)
     lowest_if_bad (inl none) rank line why is = absurd (let e : NoMemory ≡ BadLine rank line why = sym none ∙ is in cc)
     lowest_if_bad (inr (inl (file, same, first, rose))) rank line why is = absurd (let e : OpenFault file ≡ BadLine rank line why = sym same ∙ is in cc)
     lowest_if_bad (inr (inr (opened, inl (other, limit, same, full)))) rank line why is = absurd (let e : CountFull other limit ≡ BadLine rank line why = sym same ∙ is in cc)

@@ -44,7 +44,8 @@ abbrev Reads : List (List ℕ) → Result (List (List ℕ)) UsageKind → Type 0
 Reads words (Ok files) = NameFiles words files
 Reads words (Err kind) = (kind ≡ UnknownOption) × ((first : List ℕ) × (later : List (List ℕ)) × (words ≡ first ∷ later) × IsOption first)
 
-reads_by : (word : List ℕ) (words : List (List ℕ)) (dashes option : Bool) → bytes_eq word (codes "--") ≡ dashes → starts_with nat_eq word (codes "--") ≡ option
+reads_by : (word : List ℕ) (words : List (List ℕ)) (dashes option : Bool) → bytes_eq word (codes "--") ≡ dashes
+    → starts_with nat_eq word (codes "--") ≡ option
     → Reads (word ∷ words) (cond dashes (Ok words) (cond option (Err UnknownOption) (Ok (word ∷ words))))
 reads_by word words true option is starts = inl (ap (λ w. w ∷ words) ((bytes_eq-Decides word (codes "--")).0 is))
 reads_by word words false true is starts = (refl, (word, words, refl, option_of word starts (bytes_eq-differ word (codes "--") is)))
@@ -62,7 +63,8 @@ reads [] = inr (refl, λ first later e. absurd cc)
 reads (word ∷ words) = reads_by word words (bytes_eq word (codes "--")) (starts_with nat_eq word (codes "--")) refl refl
 
 -- words behind a job that name files have no option in the first place
-no_option : (words files : List (List ℕ)) → NameFiles words files → (first : List ℕ) (later : List (List ℕ)) → words ≡ first ∷ later → IsOption first → ⊥
+no_option : (words files : List (List ℕ)) → NameFiles words files → (first : List ℕ) (later : List (List ℕ)) → words ≡ first ∷ later
+    → IsOption first → ⊥
 no_option words files (inl dashes) first later is option = dashes_alone (subst IsOption (sym (same_first (codes "--") first files later (sym dashes ∙ is))) option)
 no_option words files (inr (all, name)) first later is option = (name first later (sym all ∙ is)).1 option
 
@@ -107,7 +109,8 @@ module _ (behind : List (List ℕ)) where
     empty [] e = refl
     empty (x ∷ xs) e = absurd (omega (arith, e))
 
-    by_count : (files ≡ [] → ⊥) → (max_ranks < length files) ⊎ (length files ≤ max_ranks) → Says (codes "tally" ∷ behind) (cond (nat_lt max_ranks (length files)) (Err TooManyRanks) (Ok files))
+    by_count : (files ≡ [] → ⊥) → (max_ranks < length files) ⊎ (length files ≤ max_ranks)
+        → Says (codes "tally" ∷ behind) (cond (nat_lt max_ranks (length files)) (Err TooManyRanks) (Ok files))
     by_count some (inl many) =
         subst (λ b. Says (codes "tally" ∷ behind) (cond b (Err TooManyRanks) (Ok files))) (sym (lt-ltb max_ranks (length files) many))
         (inr (some_word (codes "tally"), inr (no_other_job, inr (no_unknown_option files named, inr (some_file files named some, inl ((codes "tally", behind, files, refl, named, many), refl))))))
@@ -125,7 +128,8 @@ module _ (behind : List (List ℕ)) where
       subst (λ k. Says (codes "tally" ∷ behind) (Err k)) (sym is)
       (inr (some_word (codes "tally"), inr (no_other_job, inl ((codes "tally", first, later, ap (λ w. codes "tally" ∷ w) at, option), refl))))
 
-  by_job : (job : List ℕ) (known : Bool) → bytes_eq job (codes "tally") ≡ known → Says (job ∷ behind) (cond known (with_ranks (files_of behind)) (Err UnknownJob))
+  by_job : (job : List ℕ) (known : Bool) → bytes_eq job (codes "tally") ≡ known
+      → Says (job ∷ behind) (cond known (with_ranks (files_of behind)) (Err UnknownJob))
   by_job job true is = subst (λ j. Says (j ∷ behind) (with_ranks (files_of behind))) (sym ((bytes_eq-Decides job (codes "tally")).0 is)) (by_reading (files_of behind) (reads behind))
   by_job job false is = inr (some_word job, inl ((job, behind, refl, bytes_eq-differ job (codes "tally") is), refl))
 
@@ -135,7 +139,8 @@ says [] = inl (refl, refl)
 says (job ∷ behind) = by_job behind job (bytes_eq job (codes "tally")) refl
 
 -- of accepted words no refusal holds
-none_holds : (behind files : List (List ℕ)) (kind : UsageKind) → NameFiles behind files → (files ≡ [] → ⊥) → length files ≤ max_ranks → IsFirst refusals (codes "tally" ∷ behind) kind → ⊥
+none_holds : (behind files : List (List ℕ)) (kind : UsageKind) → NameFiles behind files → (files ≡ [] → ⊥) → length files ≤ max_ranks
+    → IsFirst refusals (codes "tally" ∷ behind) kind → ⊥
 none_holds behind files kind named some few (inl (holds, is)) = some_word behind (codes "tally") holds
 none_holds behind files kind named some few (inr (a, inl (holds, is))) = no_other_job behind holds
 none_holds behind files kind named some few (inr (a, inr (b, inl (holds, is)))) = no_unknown_option behind files named holds
@@ -148,7 +153,8 @@ accepted_not_refused words files kind accepted first =
     none_holds accepted.behind files kind accepted.named (λ e. absurd (omega (arith, accepted.some, ap length e))) accepted.few (subst (λ w. IsFirst refusals w kind) accepted.job first)
 
 -- one refusal is the first
-one_first : (kinds : List UsageKind) (words : List (List ℕ)) (kind other : UsageKind) → IsFirst kinds words kind → IsFirst kinds words other → kind ≡ other
+one_first : (kinds : List UsageKind) (words : List (List ℕ)) (kind other : UsageKind) → IsFirst kinds words kind → IsFirst kinds words other
+    → kind ≡ other
 one_first [] words kind other none also = absurd none
 one_first (first ∷ later) words kind other (inl (holds, is)) (inl (also, is_too)) = is ∙ sym is_too
 one_first (first ∷ later) words kind other (inl (holds, is)) (inr (not, also)) = absurd (not holds)

@@ -1,4 +1,4 @@
-use Rattle.std.proofs.Common.{◌≡◌, ◌∙◌, ◌∷◌, [], ap, map, refl, subst}
+use Rattle.std.proofs.Common.{◌∙◌, ◌∷◌, [], ap, map, refl, subst}
 use Rattle.ygm_run.specs.BadLines.{tally_wrong}
 use Rattle.ygm_run.specs.Ending.{IsWritten, may_write, writes}
 use Rattle.ygm_run.proofs.Ending.Stages.{job_read, job_stopped, job_unwritten, nothing_is_written, unlike}

@@ -1,9 +1,8 @@
-use Rattle.std.proofs.Common.{◌≡◌, ◌∙◌, ◌∷◌, [], ℕ, List, false, Some, ap, map, refl, slice_get, subst, sym, inl}
+use Rattle.std.proofs.Common.{◌≡◌, ◌∙◌, ℕ, Some, ap, map, refl, slice_get, subst, sym, inl}
 use Rattle.ygm_io.specs.Content.{NothingLeft}
-use Rattle.ygm_run.specs.declared.status.Status.TheVariants.{BadLine, Done, NoMemory}
-use Rattle.ygm_run.specs.declared.status.Status.{Status}
+use Rattle.ygm_run.specs.declared.status.Status.TheVariants.{Done, NoMemory}
 use Rattle.ygm_run.specs.BadLines.{tally_wrong}
-use Rattle.ygm_run.specs.Ending.{Ends, FollowsVerdict, IsNoted, counts, inputs, may_write, opens, words, writes}
+use Rattle.ygm_run.specs.Ending.{FollowsVerdict, IsNoted, may_write}
 use Rattle.ygm_run.specs.Job.{AreExposed}
 use Rattle.ygm_run.specs.Notes.{note_text}
 use Rattle.ygm_run.specs.Verdict.{tally_verdict}
@@ -11,7 +10,7 @@ use Rattle.ygm_run.specs.Words.{named, order_of, texts_of}
 use Rattle.ygm_run.proofs.Ending.Follows.{follows, follows_any}
 use Rattle.ygm_run.proofs.Ending.Opened.{nothing_left_of}
 use Rattle.ygm_run.proofs.Ending.Reported.{told}
-use Rattle.ygm_run.proofs.Ending.Stages.{accepted, read_if_written}
+use Rattle.ygm_run.proofs.Ending.Stages.{RunEnds, accepted, read_if_written}
 use Rattle.ygm_run.proofs.running.run.Goals as goal
 
 pub returns-in-Ok-clause-ends : goal.returns-in-Ok-clause-ends
@@ -23,8 +22,8 @@ returns-in-Ok-clause-ends g c =
     let contents = map content (named order) in
     let sources = c.run_tally-ended.result.sources.items in
     told
-    (λ status. Ends (words order sources ∷ opens left faults contents sources (g.F.Files.faults c.args.files.now) (g.F.Files.faults c.run_tally-ended.new.files) ∷ counts tally_wrong left faults contents sources ∷ inputs tally_wrong left faults contents sources
-    ∷ writes (g.O.Sink.faults c.args.out.now) (g.O.Sink.faults c.run_tally-ended.new.out) ∷ []) status)
+    (λ status. RunEnds tally_wrong left faults order contents sources (g.F.Files.faults c.args.files.now) (g.F.Files.faults c.run_tally-ended.new.files)
+    (g.O.Sink.faults c.args.out.now) (g.O.Sink.faults c.run_tally-ended.new.out) status)
     c.run_tally-ended.result.status c.report.result c.report.ensures.same
     (accepted tally_wrong left faults order (texts_of c.in-Ok.order.names.now) content sources _ _ _ _ c.run_tally-ended.result.status c.in-Ok.ensures.exact c.run_tally-ended.ensures.ends)
     (λ unwritten. inl refl)

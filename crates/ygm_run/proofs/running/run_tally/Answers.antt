@@ -1,11 +1,11 @@
-use Rattle.std.proofs.Common.{◌≡◌, ◌∙◌, ◌∷◌, [], length, map, string_bytes, ap, sym, subst, arith}
+use Rattle.std.proofs.Common.{◌≡◌, ◌∙◌, ◌∷◌, [], length, map, ap, sym, arith}
 use Rattle.std.proofs.lemmas.List.{length-map, take-map, take_all}
 use Rattle.list_facts.proofs.Slices.{written_back}
 use Rattle.ygm_run.specs.BadLines.{tally_wrong}
 use Rattle.ygm_run.specs.Ending.{counts, inputs, opens, writes}
 use Rattle.ygm_run.specs.Words.{texts_of}
 use Rattle.ygm_run.proofs.Ending.Opened.{rests_unread}
-use Rattle.ygm_run.proofs.Ending.Stages.{job_over, passed, refused}
+use Rattle.ygm_run.proofs.Ending.Stages.{job_over, passed}
 use Rattle.ygm_run.proofs.running.run_tally.Goals as goal
 
 pub returns-in-Err-clause-rests : goal.returns-in-Err-clause-rests
