@@ -111,7 +111,7 @@ IsReason barrier me old new turn (Spent round) = IsStill turn old new × (round 
 
 abbrev pub IsAnswer : BarrierState → BarrierState → Local → PostState → PostState → Turn → Polled → Type 0
 IsAnswer barrier left me old new turn (Left number round) = PolledLeft barrier left me number round
-IsAnswer barrier left me old new turn (Waits why) = PolledWaiting barrier left × IsReason barrier me old new turn why
+IsAnswer barrier left me old new turn (Waits why) = PolledWaiting barrier left × IsReason left me old new turn why
 
 -- ---- a barrier, its rank and their log
 

@@ -90,6 +90,7 @@ impl Barrier {
         ensures no_memory { IfErr result (λ fault. fault ≡ NoMemory) }
         ensures barrier { IsSameBarrier self.old self.new }
     {
+        self.holds();
         let left = self.left;
         self.hear_all(comm);
         if self.left > left {

@@ -1,5 +1,5 @@
 -- Why a poll waits.
-use Rattle.std.proofs.Common.{◌≡◌, ◌⊎◌, ℕ, pred, ◌+◌, ◌<◌, ◌≤◌, inl, inr, true, is_some, Option, None, Some, List, [], ◌∷◌, ◌++◌, length, filter, slice_get, refl, sym, ap, ◌∙◌, subst, arith}
+use Rattle.std.proofs.Common.{◌≡◌, ◌⊎◌, ℕ, pred, ◌+◌, ◌<◌, ◌≤◌, inl, inr, true, is_some, Option, None, Some, List, [], ◌∷◌, ◌++◌, append-nil, length, filter, slice_get, refl, sym, ap, ◌∙◌, subst, arith}
 use Rattle.std.proofs.lemmas.Bool.{cases_lt}
 use Rattle.std.proofs.lemmas.List.{nil_from_length}
 use Rattle.std.proofs.lemmas.Option.{slice_get-get_or, slice_get_past}
@@ -46,7 +46,8 @@ module _ {C : Type 0} (apply : Applies C) (start : C → C) (one mid : Rank C) (
     | inl some ↦
         let none : ended.turned.taken ≡ [] = nil_from_length ended.turned.taken (omega (arith, took, ended.turned.took)) in
         let log : looked.log one.here ≡ before.log one.here ++ ended.turned.placed =
-            ended.turned.gained.log ∙ ap (λ taken. before.log one.here ++ taken ++ ended.turned.placed) none in
+            ended.turned.gained.log ∙ ap (λ taken. before.log one.here ++ taken ++ ended.turned.placed) none
+            ∙ ap (λ entries. entries ++ ended.turned.placed) (append-nil (before.log one.here)) in
         let still : batches_taken from (looked.log one.here) ≡ batches_taken from (before.log one.here) =
             ap (batches_taken from) log ∙ same_batches_taken from ended.turned.placed (before.log one.here) ended.turned.gained.puts in
         absurd (omega (arith, some, ap length still))
@@ -96,7 +97,7 @@ module _ {C : Type 0} (apply : Applies C) (start : C → C) (one mid : Rank C) (
     why_other took first later (Count rank round) other =
         let missing : IsMissing barrier rank = other.3 in
         let within : rank < me.layout.ranks = omega (arith, missing.within, ranks) in
-        (took, still first later, record {
+        ((took, still first later), record {
           at_first = sym agrees.here ∙ other.2;
           within = within;
           counted = omega (arith, other.0, other.1, agrees.its_rounds.counts_are);
@@ -110,7 +111,7 @@ module _ {C : Type 0} (apply : Applies C) (start : C → C) (one mid : Rank C) (
               | inl more ↦ more
               | inr all ↦ elim (totals_put later other.1 at_first) [ inl more ↦ more | inr none ↦ absurd (none all) ]
             ] in
-        (took, still first later, record {
+        ((took, still first later), record {
           counted = omega (arith, other.0, other.1, agrees.its_rounds.counts_are);
           found_none = missed took 0 (omega (arith, range.within, ranks, all_ranks));
           not_taken = ap (λ q. total_taken me.here q (after.log me.here)) other.0 ∙ no_total barrier here modest agrees;
@@ -123,7 +124,7 @@ module _ {C : Type 0} (apply : Applies C) (start : C → C) (one mid : Rank C) (
           | inl fewer ↦ absurd (omega (arith, counts_put later (idle first) fewer, other.1))
           | inr all ↦ omega (arith, all, range.counted_few)
         ] in
-        (took, still first later, other.0, record {
+        ((took, still first later), other.0, record {
           all_put = omega (arith, spent, other.0, agrees.its_rounds.counts_are);
           last_taken = total_there barrier here modest agrees (pred round) (omega (arith, spent, other.0, other.1, range.some));
         })
