@@ -1,11 +1,9 @@
 -- Why a poll waits.
-use Rattle.std.proofs.Common.{◌≡◌, ◌⊎◌, ℕ, pred, ◌+◌, ◌<◌, ◌≤◌, inl, inr, true, is_some, Option, None, Some, List, [], ◌∷◌, ◌++◌, append-nil, length, filter, slice_get, refl, sym, ap, ◌∙◌, subst, arith}
+use Rattle.std.proofs.Common.{◌≡◌, ℕ, pred, ◌<◌, inl, inr, true, is_some, Option, None, Some, [], ◌++◌, append-nil, length, filter, refl, sym, ap, ◌∙◌, subst, arith}
 use Rattle.std.proofs.lemmas.Bool.{cases_lt}
 use Rattle.std.proofs.lemmas.List.{nil_from_length}
 use Rattle.std.proofs.lemmas.Option.{slice_get-get_or, slice_get_past}
-use Rattle.msg_codec.specs.declared.letter.Letter.{Letter}
-use Rattle.world_core.specs.declared.entry.Entry.{Entry}
-use Rattle.world_core.specs.Counts.{counts, is_total_to, total_taken, totals}
+use Rattle.world_core.specs.Counts.{is_total_to, total_taken}
 use Rattle.world_core.specs.Local.{Local}
 use Rattle.world_core.specs.Log.{batches_taken}
 use Rattle.world_core.specs.Modest.{IsModest}
@@ -18,8 +16,8 @@ use Rattle.comm_rank.specs.Turns.{FirstFull, HasEnded, PutsKeep}
 use Rattle.comm_rank.proofs.Agrees.AfterPuts.{same_batches_taken}
 use Rattle.term_barrier.specs.declared.polled.Waiting.{Waiting}
 use Rattle.term_barrier.specs.declared.polled.Waiting.TheVariants.{Worked, Link, Count, Total, Spent}
-use Rattle.term_barrier.specs.Barriers.{BarrierAgrees, BarrierState, HasHeardAll, HasNoneToPut, HasPutTotals, InRange, IsMissing, control_letters, totals_put}
-use Rattle.term_barrier.specs.Polls.{FoundFull, IsOtherReason, IsReason, PolledCount, PolledTotal, Stands, either}
+use Rattle.term_barrier.specs.Barriers.{BarrierAgrees, BarrierState, HasPutTotals, InRange, IsMissing, control_letters}
+use Rattle.term_barrier.specs.Polls.{FoundFull, IsOtherReason, IsReason, Stands, either}
 use Rattle.term_barrier.proofs.Barriers.Knows.{known_at, no_letter, total_at}
 use Rattle.term_barrier.proofs.Barriers.Rounds.{known_is, not_taken, taken}
 

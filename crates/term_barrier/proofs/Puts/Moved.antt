@@ -1,18 +1,15 @@
 -- What a put of a control letter does to a barrier, its rank and the post.
-use Rattle.std.proofs.Common.{◌≡◌, ◌≢◌, ℕ, ◌+◌, ◌<◌, ◌≤◌, ◌^◌, Bool, true, false, nat_eq, eqb-true, None, List, [], ◌∷◌, ◌++◌, refl, sym, ap, ◌∙◌, subst, append-nil, inl, inr, arith}
-use Rattle.std.specs.Bool.{IsTrue}
+use Rattle.std.proofs.Common.{◌≡◌, ℕ, ◌+◌, ◌<◌, ◌≤◌, ◌^◌, Bool, true, false, nat_eq, eqb-true, None, List, [], ◌∷◌, ◌++◌, refl, sym, ap, ◌∙◌, subst, append-nil, inl, inr, arith}
 use Rattle.std.proofs.lemmas.Bool.{eqb-false}
 use Rattle.msg_codec.specs.Control.{ControlFits, is_control, is_count, is_total, letter_of_control, spelled_counts}
-use Rattle.msg_codec.specs.declared.control.Control.{Control}
 use Rattle.msg_codec.specs.declared.control.Control.TheVariants.{Count, Total}
 use Rattle.msg_codec.specs.declared.letter.Letter.{Letter}
-use Rattle.world_core.specs.declared.entry.Entry.{Entry}
 use Rattle.world_core.specs.declared.entry.Entry.TheVariants.{Put}
 use Rattle.world_core.specs.Counts.{counts}
 use Rattle.world_core.specs.Limits.{most_arrived}
 use Rattle.world_core.specs.Local.{having_put}
 use Rattle.world_core.specs.Pairs.{of_sender}
-use Rattle.world_core.specs.Post.{FullsRise, PostState, PutDone, PutFoundFull, PutKeeps, SameFulls, SamePost, local_at}
+use Rattle.world_core.specs.Post.{FullsRise, PostState, PutDone, PutKeeps, SameFulls, SamePost, local_at}
 use Rattle.world_core.specs.Rounds.{Sums}
 use Rattle.world_core.specs.Rules.{IsHonest, first_broken}
 use Rattle.world_core.specs.Rules.Deed.{Puts}

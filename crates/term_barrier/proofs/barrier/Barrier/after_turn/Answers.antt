@@ -1,11 +1,10 @@
-use Rattle.std.proofs.Common.{◌≡◌, ◌<◌, ◌≤◌, ◌-◌, ℕ, true, false, Ok, [], ap, ◌∙◌, sym, subst, arith}
-use Rattle.world_core.specs.Post.{PostState}
+use Rattle.std.proofs.Common.{◌≡◌, ◌<◌, ◌≤◌, ◌-◌, true, false, Ok, [], ap, ◌∙◌, sym, subst, arith}
 use Rattle.comm_rank.specs.Turns.{PutsKeep}
 use Rattle.comm_rank.specs.Rank.{Rank, held_letters, local_of}
 use Rattle.term_barrier.specs.contracts.barrier.Barrier.{the_view}
 use Rattle.term_barrier.specs.Barriers.{BarrierState, with_letters}
-use Rattle.term_barrier.specs.Polls.{HasPutControls, IsSameBarrier, PolledLeft, Stands}
-use Rattle.term_barrier.proofs.Polls.AfterTurn.{handed_over, has_room, inside_still, polled_left, same_handed, same_left, same_put, stands_handed, stands_outside}
+use Rattle.term_barrier.specs.Polls.{IsSameBarrier, PolledLeft, Stands}
+use Rattle.term_barrier.proofs.Polls.AfterTurn.{has_room, inside_still, polled_left, same_handed, same_left, same_put, stands_handed, stands_outside}
 use Rattle.term_barrier.proofs.Polls.Reasons.{reason}
 use Rattle.term_barrier.proofs.barrier.Barrier.after_turn.Goals as goal
 

@@ -1,4 +1,4 @@
-use Rattle.std.proofs.Common.{◌≡◌, ◌<◌, length, refl, ap, ◌∙◌, sym, slice_set, get_or, arith}
+use Rattle.std.proofs.Common.{◌≡◌, ◌<◌, length, refl, ap, ◌∙◌, slice_set, get_or, arith}
 use Rattle.std.proofs.lemmas.List.{get_or_read_under}
 use Rattle.term_barrier.specs.declared.heard.Heard.{Heard}
 use Rattle.term_barrier.specs.Barriers.{BarrierState, heard_more, heard_of, none_heard}

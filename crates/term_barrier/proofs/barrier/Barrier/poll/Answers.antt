@@ -1,7 +1,6 @@
-use Rattle.std.proofs.Common.{◌≡◌, true, false, ap, ◌∙◌, sym, subst}
+use Rattle.std.proofs.Common.{◌≡◌, false, ap, ◌∙◌}
 use Rattle.std.proofs.lemmas.Result.{IfErr-weaker, IfOk-weaker}
-use Rattle.comm_rank.specs.Rank.{IsSameRank, Rank}
-use Rattle.term_barrier.specs.Polls.{PollEnded}
+use Rattle.comm_rank.specs.Rank.{Rank}
 use Rattle.term_barrier.proofs.Polls.Ended.{keeps_failed, keeps_poll, poll_ended, put_failed, same_going, stands_turned}
 use Rattle.term_barrier.proofs.barrier.Barrier.poll.Goals as goal
 

@@ -1,5 +1,5 @@
-use Rattle.std.proofs.Common.{◌≡◌, ℕ, ◌<◌, ◌≤◌, ◌^◌, Bool, true, false, List, [], ◌∷◌, ap, ◌∙◌, sym, subst, arith}
-use Rattle.msg_codec.specs.Control.{ControlFits, letter_of_control}
+use Rattle.std.proofs.Common.{Bool, [], ◌∷◌, ap, ◌∙◌, sym, subst, arith}
+use Rattle.msg_codec.specs.Control.{letter_of_control}
 use Rattle.msg_codec.specs.declared.control.Control.TheVariants.{Count}
 use Rattle.world_core.specs.Post.{PutDone, PutFoundFull}
 use Rattle.comm_rank.specs.Rank.{held_letters}

@@ -1,10 +1,9 @@
-use Rattle.std.proofs.Common.{◌≡◌, ℕ, suc, ◌+◌, ◌<◌, ◌≤◌, Bool, true, false, Ok, List, [], ◌∷◌, refl, ap, ◌∙◌, sym, subst, arith}
+use Rattle.std.proofs.Common.{◌≡◌, suc, ◌+◌, ◌≤◌, Ok, refl, ap, ◌∙◌, sym, subst, arith}
 use Rattle.comm_rank.specs.Rank.{held_letters}
 use Rattle.comm_rank.proofs.Moves.OnePut.{keeps_none}
 use Rattle.term_barrier.specs.Barriers.{BarrierState, destination, with_total_put}
-use Rattle.term_barrier.specs.Polls.{HasPutControls}
 use Rattle.term_barrier.proofs.Puts.Moved.{put_none}
-use Rattle.term_barrier.proofs.Puts.Totals.{TotalsPut, controls_then, total_is_due, totals_first, totals_more}
+use Rattle.term_barrier.proofs.Puts.Totals.{TotalsPut, controls_then, totals_first, totals_more}
 use Rattle.term_barrier.proofs.barrier.Barrier.put_each_total.Goals as goal
 
 pub loop-next-init : goal.loop-next-init

@@ -1,4 +1,4 @@
-use Rattle.std.proofs.Common.{◌≡◌, ℕ, ◌<◌, ◌≤◌, ◌^◌, Bool, true, false, List, [], ◌∷◌, ap, ◌∙◌, sym, subst, arith}
+use Rattle.std.proofs.Common.{◌≡◌, Bool, true, [], ◌∷◌, ap, ◌∙◌, sym, subst}
 use Rattle.msg_codec.specs.Control.{letter_of_control}
 use Rattle.msg_codec.specs.declared.control.Control.TheVariants.{Total}
 use Rattle.world_core.specs.Post.{PutDone, PutFoundFull}

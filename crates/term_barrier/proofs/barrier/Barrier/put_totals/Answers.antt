@@ -1,4 +1,4 @@
-use Rattle.std.proofs.Common.{◌≡◌, ◌<◌, ◌≤◌, ap, arith}
+use Rattle.std.proofs.Common.{◌≤◌, arith}
 use Rattle.world_core.specs.Limits.{most_arrived}
 use Rattle.comm_rank.specs.Rank.{local_of}
 use Rattle.term_barrier.specs.Barriers.{HasTotalsDue, round_sums}
