@@ -2,6 +2,7 @@ pub mod After
 pub mod CountIn
 pub mod Counted
 pub mod Distinct
+pub mod HasCounts
 pub mod Inserts
 pub mod Map
 pub mod Order

@@ -1,6 +1,6 @@
 -- A counting set: its items with their counts, in the order in which they were first added, and what
 -- letters do to it.
-use Rattle.std.specs.Prelude.{◌≡◌, ◌≢◌, ◌↔◌, ℕ, ◌+◌, ◌-◌, ◌^◌, ◌<◌, ◌==◌, ◌&&◌, nat_le, min, List, [], ◌∷◌, Option, Some, None, if◌then◌else◌, bytes_eq, count_by, length, AllPairs, Contains}
+use Rattle.std.specs.Prelude.{◌≡◌, ◌≢◌, ◌↔◌, ℕ, ◌+◌, ◌-◌, ◌^◌, ◌<◌, ◌==◌, ◌&&◌, nat_le, min, List, [], ◌∷◌, Option, Some, None, IfSome, if◌then◌else◌, bytes_eq, count_by, length, AllPairs, Contains}
 use Rattle.msg_codec.specs.declared.letter.Letter.{Letter}
 use Rattle.comm_rank.specs.Fold.{Applies}
 use Rattle.counting_set.specs.ItemCount.{item_count_of, spelled_item_count}
@@ -45,11 +45,19 @@ share item (Some one) = if bytes_eq item one.0 then one.1 else 0
 abbrev pub adds_of : List ℕ → Letter → ℕ
 adds_of item l = share item (adds l)
 
+-- what the letter adds, if anything, is at least one
+abbrev pub AddsNoZero : Letter → Type 0
+AddsNoZero l = IfSome (adds l) (λ one. 0 < one.1)
+
 -- the letter by which a rank adds one of the item
 abbrev pub add_letter : ℕ → ℕ → List ℕ → Letter
 add_letter to from item = record { to = to; from = from; tag = 1; body = spelled_item_count item 1 }
 
--- each distinct line is there once, with the number of lines equal to it, and nothing else is
-pub record AreCounted (contents : Counts) (lines : List (List ℕ)) : Type 0 where
+-- each item whose count isn't 0 is there once, with its count, and nothing else is
+pub record HasCounts (contents : Counts) (count_of : List ℕ → ℕ) : Type 0 where
   pub distinct : AllPairs (λ pair later. pair.0 ≢ later.0) contents
-  pub counted : (x : List ℕ) (c : ℕ) → Contains contents (x, c) ↔ ((c ≡ count_by (λ line. bytes_eq x line) lines) × (0 < c))
+  pub counted : (x : List ℕ) (c : ℕ) → Contains contents (x, c) ↔ ((c ≡ count_of x) × (0 < c))
+
+-- each distinct line is there once, with the number of lines equal to it, and nothing else is
+abbrev pub AreCounted : Counts → List (List ℕ) → Type 0
+AreCounted contents lines = HasCounts contents (λ x. count_by (λ line. bytes_eq x line) lines)

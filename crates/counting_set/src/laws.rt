@@ -1,12 +1,12 @@
 //! The laws of a counting set. Each is the contract of a function that does nothing.
-ghost use Rattle.std.specs.Prelude.{◌≡◌, ◌≢◌, ◌+◌, ◌^◌, ◌<◌, ◌≤◌, ℕ, List, [], ◌∷◌, ◌++◌, Some, All, Contains, bytes_eq, length, map, sum_by};
+ghost use Rattle.std.specs.Prelude.{◌≡◌, ◌≢◌, ◌↔◌, ◌+◌, ◌^◌, ◌<◌, ◌≤◌, ℕ, List, [], ◌∷◌, ◌++◌, Some, All, Contains, bytes_eq, length, map, sum_by};
 ghost use Rattle.std.specs.List.{IsDistinct};
 ghost use Rattle.msg_codec.specs.Bytes.{AreBytes};
 ghost use Rattle.msg_codec.specs.Limits.{max_body};
 ghost use Rattle.msg_codec.specs.declared.letter.Letter.{Letter};
 ghost use Rattle.comm_rank.specs.Fold.{fold_from, handed_from};
 ghost use Rattle.counting_set.specs.ItemCount.{item_count_of, spelled_item_count};
-ghost use Rattle.counting_set.specs.Counting.{Counts, AreCounted, counting_apply, added, count_in, capped, adds, adds_of, add_letter};
+ghost use Rattle.counting_set.specs.Counting.{Counts, AddsNoZero, AreCounted, HasCounts, counting_apply, added, count_in, capped, adds, adds_of, add_letter};
 
 use crate::counting::MAX_ITEM;
 use msg_codec::{Body, Wire};
@@ -42,6 +42,19 @@ pub fn counts_are_sums()
     ensures { (here ranks : ℕ) (contents : Counts) (letters : List Letter) (item : List ℕ) →
         count_in contents item < 2 ^ 64 → All (λ l. AreBytes l.body) letters →
         count_in (fold_from counting_apply here ranks contents letters) item ≡ capped (count_in contents item + sum_by (adds_of item) letters) }
+{}
+
+/// What letters add to a shard that began empty is there. Where the sums are below the limit of a count and no letter
+/// adds 0, each item to which they add is there once, with the sum, and nothing else is. Always, an item has a count
+/// above 0 exactly where that is the sum, up to the largest value of the type.
+pub fn letters_add_up()
+    ensures below { (here ranks : ℕ) (letters : List Letter) → All AddsNoZero letters →
+        ((item : List ℕ) → sum_by (adds_of item) letters < 2 ^ 64) →
+        HasCounts (fold_from counting_apply here ranks [] letters) (λ item. sum_by (adds_of item) letters) }
+    ensures limit { (here ranks : ℕ) (letters : List Letter) → All (λ l. AreBytes l.body) letters →
+        (item : List ℕ) (count : ℕ) → 0 < count →
+        Contains (fold_from counting_apply here ranks [] letters) (item, count)
+        ↔ (count ≡ capped (sum_by (adds_of item) letters)) }
 {}
 
 /// A counting set sends nothing.

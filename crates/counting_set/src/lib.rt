@@ -12,8 +12,8 @@ pub use insert::count_insert;
 pub use item_count::{put_item_count, read_item_count};
 pub use laws::{
     a_new_item_goes_last, adds_of_one_are_counted, an_insert_adds_one, counting_sends_nothing,
-    counts_are_sums, item_counts_are_pairs, item_counts_are_read_again, no_item_stands_twice,
-    no_two_item_counts_are_spelled_alike,
+    counts_are_sums, item_counts_are_pairs, item_counts_are_read_again, letters_add_up,
+    no_item_stands_twice, no_two_item_counts_are_spelled_alike,
 };
 pub use owner::{fnv, owner_of_key};
 

@@ -337,6 +337,7 @@ fn the_laws_can_be_cited() {
     an_insert_adds_one();
     counting_sends_nothing();
     counts_are_sums();
+    letters_add_up();
     no_item_stands_twice();
 }
 
