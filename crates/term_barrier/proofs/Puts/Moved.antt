@@ -101,7 +101,7 @@ module _ {C : Type 0} (apply : Applies C) (start : C → C) (old new : BarrierSt
       BarrierAgrees new [] (having_put (local_of me (before.log me.here)) to (l ∷ [])) → Stands apply start new me after
   stands_put done same agrees may both =
       let log : after.log me.here ≡ before.log me.here ++ Put to (l ∷ []) ∷ [] =
-          subst (λ h. after.log h ≡ before.log h ++ Put to (l ∷ []) ∷ []) stands.agrees.here done.log in
+      subst (λ h. after.log h ≡ before.log h ++ Put to (l ∷ []) ∷ []) stands.agrees.here done.log in
       record {
         belongs = record {
           serves = same.serves me.here ∙ stands.belongs.serves;
@@ -163,7 +163,7 @@ module _ {C : Type 0} (apply : Applies C) (start : C → C) (barrier : BarrierSt
     pub count_unbroken : first_broken (local_at before barrier.here) (Puts 0 (this_count ∷ [])) ≡ None
     count_unbroken =
         let due : IsUnbroken me.here me.sent_count me.run_count =
-            λ fits. count_due apply start barrier me before stands range all_handed idle all_known fits in
+        λ fits. count_due apply start barrier me before stands range all_handed idle all_known fits in
         let here : IsUnbroken barrier.here me.sent_count me.run_count = subst (λ h. IsUnbroken h me.sent_count me.run_count) (sym one.here) due in
         let sent : IsUnbroken barrier.here s me.run_count = subst (λ n. IsUnbroken barrier.here n me.run_count) (sym s_is) here in
         subst (λ n. IsUnbroken barrier.here s n) (sym r_is) sent fits
@@ -199,12 +199,14 @@ module _ {C : Type 0} (apply : Applies C) (start : C → C) (barrier : BarrierSt
   module _ (first : barrier.here ≡ 0) (to : ℕ) (sums : Sums) (due : IsTotalDue barrier to sums) (to_fits : to < 2 ^ 32) where
     fits : ControlFits (Total to barrier.over sums.sent sums.run)
     fits =
-        let few = few_sums due.every in
-        (to_fits, record {
-          round_fits = omega (arith, due.counted, range.counted_few, range.few);
-          sent_fits = omega (arith, few.0, ap (λ (s : Sums). s.sent) due.sums_are);
-          run_fits = omega (arith, few.1, ap (λ (s : Sums). s.run) due.sums_are);
-        })
+        let few = few_sums due.every in (
+          to_fits,
+          record {
+            round_fits = omega (arith, due.counted, range.counted_few, range.few);
+            sent_fits = omega (arith, few.0, ap (λ (s : Sums). s.sent) due.sums_are);
+            run_fits = omega (arith, few.1, ap (λ (s : Sums). s.run) due.sums_are);
+          },
+        )
 
     pub total_unbroken : first_broken (local_at before barrier.here) (Puts to (this_total to sums ∷ [])) ≡ None
     total_unbroken =

@@ -93,7 +93,7 @@ module _ {C : Type 0} (apply : Applies C) (start : C → C) (me : Rank C) (old :
         TotalsPut apply start me (suc k) old new before after
     totals_more new after put fulls controls stands =
         let is : new ≡ with_total_put (record old { next = k }) (destination old.layout.ranks k) =
-            put ∙ ap (λ b. with_total_put b (destination old.layout.ranks k)) now_is in
+        put ∙ ap (λ b. with_total_put b (destination old.layout.ranks k)) now_is in
         let either = with_total_is (nat_lt k old.layout.ranks) refl in
         record {
           stands = stands;
