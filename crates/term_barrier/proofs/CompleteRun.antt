@@ -1,2 +1,4 @@
 pub mod FromAccounts
 pub mod Arrived
+pub mod BySender
+pub mod Silent

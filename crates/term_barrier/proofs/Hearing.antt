@@ -4,14 +4,14 @@ use Rattle.std.proofs.lemmas.Bool.{eqb-false, ltb-false, ltb-true}
 use Rattle.std.proofs.lemmas.Grind.{get_or-set_at}
 use Rattle.std.proofs.lemmas.List.{get_or-set_other, set_past}
 use Rattle.list_facts.proofs.Tests.{and_first, and_second}
-use Rattle.msg_codec.specs.Control.{is_count, letter_with, run_of, sent_of, spelled_counts}
+use Rattle.msg_codec.specs.Control.{is_count, letter_with, spelled_counts}
 use Rattle.msg_codec.proofs.Controls.Body.{run_again, sent_again}
 use Rattle.msg_codec.specs.declared.letter.Letter.{Letter}
 use Rattle.world_core.specs.Counts.{is_count_of, is_total_to}
 use Rattle.world_core.specs.Limits.{most_rounds}
 use Rattle.world_core.specs.Rounds.{Sums}
 use Rattle.term_barrier.specs.declared.heard.Heard.{Heard}
-use Rattle.term_barrier.specs.Barriers.{BarrierState, HasRoom, counts_heard, heard_more, heard_of, none_heard, sums_of, totals_heard, with_count, with_letter, with_letters, with_total}
+use Rattle.term_barrier.specs.Barriers.{BarrierState, HasRoom, counts_heard, heard_more, heard_of, none_heard, sums_of, totals_heard, with_count, with_letter, with_total}
 
 -- the letters of a Count and of a Total
 abbrev count_letter : ℕ → ℕ → ℕ → ℕ → Letter

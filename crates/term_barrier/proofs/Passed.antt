@@ -1,3 +1,4 @@
 pub mod FromWorld
 pub mod NothingAfter
 pub mod Folded
+pub mod Silent

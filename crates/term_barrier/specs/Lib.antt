@@ -4,6 +4,7 @@ pub mod CompleteRun
 pub mod Account
 pub mod CountedPlace
 pub mod Passed
+pub mod SilentRun
 pub mod Left
 pub mod Polls
 pub mod Barriers

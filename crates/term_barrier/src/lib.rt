@@ -9,6 +9,7 @@ pub mod poll_laws;
 mod polled;
 pub mod put_laws;
 mod rounds;
+pub mod run_laws;
 #[cfg(test)]
 mod tests;
 

@@ -120,9 +120,7 @@ impl Barrier {
             return Waiting::Link { to };
         }
         if self.counted <= self.known {
-            return Waiting::Spent {
-                round: self.rounds,
-            };
+            return Waiting::Spent { round: self.rounds };
         }
         let round = self.known;
         if self.here == 0 && self.over <= self.known {

@@ -7,6 +7,7 @@ mod rounds;
 mod waits;
 
 use super::laws::*;
+use super::run_laws::*;
 use comm_rank::{Handler, Outgoing};
 use msg_codec::LetterRef;
 use std::alloc::AllocError;
@@ -49,6 +50,8 @@ fn the_laws_can_be_cited() {
     accounts_and_quiet_cuts_make_a_complete_run::<u64>();
     nothing_arrives_after_the_last_cut::<u64>();
     contents_are_the_fold_of_all_phases::<Silent>();
+    own_letters_alone_arrive_where_handlers_are_silent::<u64>();
+    silent_ranks_end_with_the_fold_of_own_letters::<u64>();
     what_a_rank_was_told_is_so();
     one_round_ends_each_barrier();
     a_rank_leaves_a_barrier_for_good();

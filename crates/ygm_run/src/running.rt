@@ -180,10 +180,10 @@ pub fn run<F: Files, O: Sink, N: Sink>(
         ∷ inputs tally_wrong F.Src.left F.Src.faults contents sources
         ∷ writes (O.faults out.old) (O.faults out.new)
         ∷ []) result.status }
-    // Refused words always end so, even for lack of memory, and leave the files unchanged.
+    // Refused words always end with `Usage`, even where memory is lacking, and leave the files unchanged.
     ensures refused_words { IfErr (order_of (texts_of words.now)) (λ kind.
         (result.status ≡ Status.Usage kind) × (files.new ≡ files.old)) }
-    // If the files expose their bytes, these decide the text that is written, whole or in part, and the bad line.
+    // If the files expose their bytes, these decide the text that is written, all of it or less, and the bad line.
     ensures text { (bytes : List (List ℕ))
         → AreExposed (map (F.content files.old) (named (order_of (texts_of words.now)))) bytes
         → FollowsVerdict (tally_verdict bytes) result.status (O.holds out.old) (O.holds out.new) }

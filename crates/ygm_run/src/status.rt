@@ -45,7 +45,7 @@ pub enum Status {
     ReadFault { rank: u32 },
     /// The first bad line, counted from 1, of the rank's file. No rank below has a fault.
     BadLine { rank: u32, line: u64, why: LineWhy },
-    /// The text couldn't be written. What was written is a prefix of it.
+    /// The text couldn't be written. What was written is its front, less than all of it.
     WriteFault,
     /// Memory ran out.
     NoMemory,

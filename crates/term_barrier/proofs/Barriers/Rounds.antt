@@ -120,9 +120,9 @@ module _ (barrier : BarrierState) (me : Local) (modest : IsModest me) (agrees : 
       ((round_sums barrier).sent ≡ sent_taken me barrier.over) × ((round_sums barrier).run ≡ run_taken me barrier.over)
   sums_are range every = (
     ap (sum_upto (λ from. (sums_heard_at barrier.over (heard_of barrier from)).sent)) ranks
-    ∙ sum_upto-same _ _ me.layout.ranks (λ from within. ap (λ sums. sums.sent) (sums_of_count from within range every)),
+        ∙ sum_upto-same _ _ me.layout.ranks (λ from within. ap (λ sums. sums.sent) (sums_of_count from within range every)),
     ap (sum_upto (λ from. (sums_heard_at barrier.over (heard_of barrier from)).run)) ranks
-    ∙ sum_upto-same _ _ me.layout.ranks (λ from within. ap (λ sums. sums.run) (sums_of_count from within range every)),
+        ∙ sum_upto-same _ _ me.layout.ranks (λ from within. ap (λ sums. sums.run) (sums_of_count from within range every)),
   )
     where
       ranks : barrier.layout.ranks ≡ me.layout.ranks

@@ -23,6 +23,10 @@ pub merge_is_other : {X : Type 0} (other merged : List X) → IsMerge [] other m
 merge_is_other _ _ OfNone = refl
 merge_is_other _ _ (FromOther x {other = other} {merged = merged} h) = ap (λ xs. x ∷ xs) (merge_is_other other merged h)
 
+pub merge_is_one : {X : Type 0} (one merged : List X) → IsMerge one [] merged → merged ≡ one
+merge_is_one _ _ OfNone = refl
+merge_is_one _ _ (FromOne x {one = one} {merged = merged} h) = ap (λ xs. x ∷ xs) (merge_is_one one merged h)
+
 -- ---- more elements
 
 -- more of the one list come last

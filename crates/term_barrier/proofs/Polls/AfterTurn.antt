@@ -1,11 +1,9 @@
 -- What a poll does after its turn.
-use Rattle.std.proofs.Common.{◌≡◌, ◌⊎◌, ℕ, ◌+◌, ◌-◌, ◌<◌, ◌≤◌, inl, inr, true, false, List, [], ◌++◌, refl, sym, ap, ◌∙◌, subst, append-nil, arith}
+use Rattle.std.proofs.Common.{◌≡◌, ◌-◌, ◌<◌, ◌≤◌, inl, inr, false, List, [], ◌++◌, refl, sym, ap, ◌∙◌, subst, append-nil, arith}
 use Rattle.std.specs.List.{filter}
-use Rattle.std.proofs.lemmas.Bool.{cases_lt}
 use Rattle.msg_codec.specs.Control.{is_control}
 use Rattle.msg_codec.specs.declared.letter.Letter.{Letter}
 use Rattle.world_core.specs.declared.entry.Entry.{Entry}
-use Rattle.world_core.specs.Counts.{counts}
 use Rattle.world_core.specs.Log.{letters_taken}
 use Rattle.world_core.specs.Post.{PostState, local_at}
 use Rattle.world_core.specs.Rules.{IsHonest}
@@ -15,7 +13,6 @@ use Rattle.comm_rank.specs.Rank.{Rank, held_letters, local_of}
 use Rattle.comm_rank.specs.Turns.{PutsKeep}
 use Rattle.comm_rank.proofs.Moves.OnePut.{keeps_none}
 use Rattle.term_barrier.specs.Barriers.{BarrierAgrees, BarrierState, HasRoom, InRange, with_letters}
-use Rattle.term_barrier.specs.Left.{HasLeft}
 use Rattle.term_barrier.specs.Polls.{AfterTurn, HasPutControls, IsSameBarrier, PolledLeft, Stands}
 use Rattle.term_barrier.proofs.Barriers.Handed.{agrees_handed_all, with_letters_keeps}
 use Rattle.term_barrier.proofs.Barriers.Leaving.{LeftOnce, left_now, left_once, left_outside}

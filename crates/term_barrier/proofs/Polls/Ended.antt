@@ -1,11 +1,10 @@
 -- What a whole poll does: a turn, and what comes after it.
-use Rattle.std.proofs.Common.{◌≡◌, ◌⊎◌, ℕ, ◌<◌, ◌≤◌, inl, inr, true, false, List, [], ◌∷◌, ◌++◌, refl, sym, ap, ◌∙◌, subst, arith}
+use Rattle.std.proofs.Common.{◌≡◌, ℕ, ◌<◌, inr, true, false, List, [], ◌∷◌, ◌++◌, refl, sym, ap, ◌∙◌, subst, arith}
 use Rattle.std.specs.List.{AllByRecursion}
-use Rattle.msg_codec.specs.declared.letter.Letter.{Letter}
 use Rattle.world_core.specs.declared.entry.Entry.{Entry}
 use Rattle.world_core.specs.declared.entry.Entry.TheVariants.{Put, Took}
 use Rattle.world_core.specs.Log.{IsPut}
-use Rattle.world_core.specs.Post.{CountsNeverFall, PostState, RaiseKeeps, SameStops, StopRaised, local_at}
+use Rattle.world_core.specs.Post.{PostState, RaiseKeeps, StopRaised, local_at}
 use Rattle.world_core.specs.Rules.{IsHonest}
 use Rattle.comm_rank.specs.declared.fault.CommFault.{CommFault}
 use Rattle.comm_rank.specs.declared.fault.CommFault.TheVariants.{NoMemory}
@@ -14,7 +13,7 @@ use Rattle.comm_rank.specs.Agrees.{MayTurn}
 use Rattle.comm_rank.specs.Fault.{UnlessStopped}
 use Rattle.comm_rank.specs.Fold.{Applies}
 use Rattle.comm_rank.specs.Rank.{IsSameRank, Rank, Worked, halted, held_letters, local_of}
-use Rattle.comm_rank.specs.Turns.{HasEnded, KeepsPost, LookedAt, PutsKeep}
+use Rattle.comm_rank.specs.Turns.{HasEnded, KeepsPost, LookedAt}
 use Rattle.comm_rank.proofs.Rank.Same.{same_rank}
 use Rattle.comm_rank.proofs.Turns.Outcomes.{looked_then}
 use Rattle.term_barrier.specs.declared.polled.Polled.{Polled}

@@ -1,11 +1,9 @@
 -- Why a poll waits.
-use Rattle.std.proofs.Common.{◌≡◌, ◌⊎◌, ℕ, pred, ◌+◌, ◌<◌, ◌≤◌, inl, inr, true, is_some, Option, None, Some, List, [], ◌∷◌, ◌++◌, append-nil, length, filter, slice_get, refl, sym, ap, ◌∙◌, subst, arith}
+use Rattle.std.proofs.Common.{◌≡◌, ℕ, pred, ◌<◌, inl, inr, true, is_some, Option, None, Some, [], ◌++◌, append-nil, length, filter, refl, sym, ap, ◌∙◌, subst, arith}
 use Rattle.std.proofs.lemmas.Bool.{cases_lt}
 use Rattle.std.proofs.lemmas.List.{nil_from_length}
 use Rattle.std.proofs.lemmas.Option.{slice_get-get_or, slice_get_past}
-use Rattle.msg_codec.specs.declared.letter.Letter.{Letter}
-use Rattle.world_core.specs.declared.entry.Entry.{Entry}
-use Rattle.world_core.specs.Counts.{counts, is_total_to, total_taken, totals}
+use Rattle.world_core.specs.Counts.{is_total_to, total_taken}
 use Rattle.world_core.specs.Local.{Local}
 use Rattle.world_core.specs.Log.{batches_taken}
 use Rattle.world_core.specs.Modest.{IsModest}
@@ -18,8 +16,8 @@ use Rattle.comm_rank.specs.Turns.{FirstFull, HasEnded, PutsKeep}
 use Rattle.comm_rank.proofs.Agrees.AfterPuts.{same_batches_taken}
 use Rattle.term_barrier.specs.declared.polled.Waiting.{Waiting}
 use Rattle.term_barrier.specs.declared.polled.Waiting.TheVariants.{Worked, Link, Count, Total, Spent}
-use Rattle.term_barrier.specs.Barriers.{BarrierAgrees, BarrierState, HasHeardAll, HasNoneToPut, HasPutTotals, InRange, IsMissing, control_letters, totals_put}
-use Rattle.term_barrier.specs.Polls.{FoundFull, IsOtherReason, IsReason, PolledCount, PolledTotal, Stands, either}
+use Rattle.term_barrier.specs.Barriers.{BarrierAgrees, BarrierState, HasPutTotals, InRange, IsMissing, control_letters}
+use Rattle.term_barrier.specs.Polls.{FoundFull, IsOtherReason, IsReason, Stands, either}
 use Rattle.term_barrier.proofs.Barriers.Knows.{known_at, no_letter, total_at}
 use Rattle.term_barrier.proofs.Barriers.Rounds.{known_is, not_taken, taken}
 
@@ -46,10 +44,10 @@ module _ {C : Type 0} (apply : Applies C) (start : C → C) (one mid : Rank C) (
     | inl some ↦
         let none : ended.turned.taken ≡ [] = nil_from_length ended.turned.taken (omega (arith, took, ended.turned.took)) in
         let log : looked.log one.here ≡ before.log one.here ++ ended.turned.placed =
-            ended.turned.gained.log ∙ ap (λ taken. before.log one.here ++ taken ++ ended.turned.placed) none
-            ∙ ap (λ entries. entries ++ ended.turned.placed) (append-nil (before.log one.here)) in
+        ended.turned.gained.log ∙ ap (λ taken. before.log one.here ++ taken ++ ended.turned.placed) none
+        ∙ ap (λ entries. entries ++ ended.turned.placed) (append-nil (before.log one.here)) in
         let still : batches_taken from (looked.log one.here) ≡ batches_taken from (before.log one.here) =
-            ap (batches_taken from) log ∙ same_batches_taken from ended.turned.placed (before.log one.here) ended.turned.gained.puts in
+        ap (batches_taken from) log ∙ same_batches_taken from ended.turned.placed (before.log one.here) ended.turned.gained.puts in
         absurd (omega (arith, some, ap length still))
     | inr none ↦ subst (Rose (before.misses from)) (sym (keeps.misses from)) none.0
   ]
@@ -96,38 +94,45 @@ module _ {C : Type 0} (apply : Applies C) (start : C → C) (one mid : Rank C) (
     why_other took first later (Link to) other = absurd other
     why_other took first later (Count rank round) other =
         let missing : IsMissing barrier rank = other.3 in
-        let within : rank < me.layout.ranks = omega (arith, missing.within, ranks) in
-        ((took, still first later), record {
-          at_first = sym agrees.here ∙ other.2;
-          within = within;
-          counted = omega (arith, other.0, other.1, agrees.its_rounds.counts_are);
-          found_none = missed took rank (omega (arith, within, all_ranks));
-          not_taken = not_taken barrier here modest agrees rank within round (omega (arith, missing.not_heard, other.0));
-          lower_taken = λ lower lt. taken barrier here modest agrees lower (omega (arith, lt, within)) round (omega (arith, missing.lower_heard lower lt, other.0));
-        })
+        let within : rank < me.layout.ranks = omega (arith, missing.within, ranks) in (
+          (took, still first later),
+          record {
+            at_first = sym agrees.here ∙ other.2;
+            within = within;
+            counted = omega (arith, other.0, other.1, agrees.its_rounds.counts_are);
+            found_none = missed took rank (omega (arith, within, all_ranks));
+            not_taken = not_taken barrier here modest agrees rank within round (omega (arith, missing.not_heard, other.0));
+            lower_taken = λ lower lt. taken barrier here modest agrees lower (omega (arith, lt, within)) round (omega (arith, missing.lower_heard lower lt, other.0));
+          },
+        )
     why_other took first later (Total round) other =
         let past : barrier.here ≡ 0 → barrier.known < barrier.over = λ at_first.
-            elim (other.2 at_first) [
-              | inl more ↦ more
-              | inr all ↦ elim (totals_put later other.1 at_first) [ inl more ↦ more | inr none ↦ absurd (none all) ]
-            ] in
-        ((took, still first later), record {
-          counted = omega (arith, other.0, other.1, agrees.its_rounds.counts_are);
-          found_none = missed took 0 (omega (arith, range.within, ranks, all_ranks));
-          not_taken = ap (λ q. total_taken me.here q (after.log me.here)) other.0 ∙ no_total barrier here modest agrees;
-          all_put = λ at_first to within.
-              let put = agrees.its_rounds.totals_are to (omega (arith, within, ranks)) in
-              omega (arith, put, past (agrees.here ∙ at_first), other.0);
-        })
+        elim (other.2 at_first) [
+          | inl more ↦ more
+          | inr all ↦ elim (totals_put later other.1 at_first) [ inl more ↦ more | inr none ↦ absurd (none all) ]
+        ] in (
+          (took, still first later),
+          record {
+            counted = omega (arith, other.0, other.1, agrees.its_rounds.counts_are);
+            found_none = missed took 0 (omega (arith, range.within, ranks, all_ranks));
+            not_taken = ap (λ q. total_taken me.here q (after.log me.here)) other.0 ∙ no_total barrier here modest agrees;
+            all_put = λ at_first to within.
+                let put = agrees.its_rounds.totals_are to (omega (arith, within, ranks)) in
+                omega (arith, put, past (agrees.here ∙ at_first), other.0);
+          },
+        )
     why_other took first later (Spent round) other =
         let spent : barrier.counted ≡ barrier.rounds = elim (cases_lt barrier.counted barrier.rounds) [
           | inl fewer ↦ absurd (omega (arith, counts_put later (idle first) fewer, other.1))
           | inr all ↦ omega (arith, all, range.counted_few)
-        ] in
-        ((took, still first later), other.0, record {
-          all_put = omega (arith, spent, other.0, agrees.its_rounds.counts_are);
-          last_taken = total_there barrier here modest agrees (pred round) (omega (arith, spent, other.0, other.1, range.some));
-        })
+        ] in (
+          (took, still first later),
+          other.0,
+          record {
+            all_put = omega (arith, spent, other.0, agrees.its_rounds.counts_are);
+            last_taken = total_there barrier here modest agrees (pred round) (omega (arith, spent, other.0, other.1, range.some));
+          },
+        )
 
     pub reason : (0 < turn.took → why ≡ Worked turn.took) → ((to : ℕ) → turn.took ≡ 0 → either turn.full full ≡ Some to → why ≡ Link to) →
         (turn.took ≡ 0 → either turn.full full ≡ None → IsOtherReason barrier why) → IsReason barrier here before after turn why

@@ -1,18 +1,15 @@
 -- What a put of a control letter does to a barrier, its rank and the post.
-use Rattle.std.proofs.Common.{◌≡◌, ◌≢◌, ℕ, ◌+◌, ◌<◌, ◌≤◌, ◌^◌, Bool, true, false, nat_eq, eqb-true, None, List, [], ◌∷◌, ◌++◌, refl, sym, ap, ◌∙◌, subst, append-nil, inl, inr, arith}
-use Rattle.std.specs.Bool.{IsTrue}
+use Rattle.std.proofs.Common.{◌≡◌, ℕ, ◌+◌, ◌<◌, ◌≤◌, ◌^◌, Bool, true, false, nat_eq, eqb-true, None, List, [], ◌∷◌, ◌++◌, refl, sym, ap, ◌∙◌, subst, append-nil, inl, inr, arith}
 use Rattle.std.proofs.lemmas.Bool.{eqb-false}
 use Rattle.msg_codec.specs.Control.{ControlFits, is_control, is_count, is_total, letter_of_control, spelled_counts}
-use Rattle.msg_codec.specs.declared.control.Control.{Control}
 use Rattle.msg_codec.specs.declared.control.Control.TheVariants.{Count, Total}
 use Rattle.msg_codec.specs.declared.letter.Letter.{Letter}
-use Rattle.world_core.specs.declared.entry.Entry.{Entry}
 use Rattle.world_core.specs.declared.entry.Entry.TheVariants.{Put}
 use Rattle.world_core.specs.Counts.{counts}
 use Rattle.world_core.specs.Limits.{most_arrived}
 use Rattle.world_core.specs.Local.{having_put}
 use Rattle.world_core.specs.Pairs.{of_sender}
-use Rattle.world_core.specs.Post.{FullsRise, PostState, PutDone, PutFoundFull, PutKeeps, SameFulls, SamePost, local_at}
+use Rattle.world_core.specs.Post.{FullsRise, PostState, PutDone, PutKeeps, SameFulls, SamePost, local_at}
 use Rattle.world_core.specs.Rounds.{Sums}
 use Rattle.world_core.specs.Rules.{IsHonest, first_broken}
 use Rattle.world_core.specs.Rules.Deed.{Puts}
@@ -104,7 +101,7 @@ module _ {C : Type 0} (apply : Applies C) (start : C → C) (old new : BarrierSt
       BarrierAgrees new [] (having_put (local_of me (before.log me.here)) to (l ∷ [])) → Stands apply start new me after
   stands_put done same agrees may both =
       let log : after.log me.here ≡ before.log me.here ++ Put to (l ∷ []) ∷ [] =
-          subst (λ h. after.log h ≡ before.log h ++ Put to (l ∷ []) ∷ []) stands.agrees.here done.log in
+      subst (λ h. after.log h ≡ before.log h ++ Put to (l ∷ []) ∷ []) stands.agrees.here done.log in
       record {
         belongs = record {
           serves = same.serves me.here ∙ stands.belongs.serves;
@@ -166,7 +163,7 @@ module _ {C : Type 0} (apply : Applies C) (start : C → C) (barrier : BarrierSt
     pub count_unbroken : first_broken (local_at before barrier.here) (Puts 0 (this_count ∷ [])) ≡ None
     count_unbroken =
         let due : IsUnbroken me.here me.sent_count me.run_count =
-            λ fits. count_due apply start barrier me before stands range all_handed idle all_known fits in
+        λ fits. count_due apply start barrier me before stands range all_handed idle all_known fits in
         let here : IsUnbroken barrier.here me.sent_count me.run_count = subst (λ h. IsUnbroken h me.sent_count me.run_count) (sym one.here) due in
         let sent : IsUnbroken barrier.here s me.run_count = subst (λ n. IsUnbroken barrier.here n me.run_count) (sym s_is) here in
         subst (λ n. IsUnbroken barrier.here s n) (sym r_is) sent fits
@@ -202,12 +199,14 @@ module _ {C : Type 0} (apply : Applies C) (start : C → C) (barrier : BarrierSt
   module _ (first : barrier.here ≡ 0) (to : ℕ) (sums : Sums) (due : IsTotalDue barrier to sums) (to_fits : to < 2 ^ 32) where
     fits : ControlFits (Total to barrier.over sums.sent sums.run)
     fits =
-        let few = few_sums due.every in
-        (to_fits, record {
-          round_fits = omega (arith, due.counted, range.counted_few, range.few);
-          sent_fits = omega (arith, few.0, ap (λ (s : Sums). s.sent) due.sums_are);
-          run_fits = omega (arith, few.1, ap (λ (s : Sums). s.run) due.sums_are);
-        })
+        let few = few_sums due.every in (
+          to_fits,
+          record {
+            round_fits = omega (arith, due.counted, range.counted_few, range.few);
+            sent_fits = omega (arith, few.0, ap (λ (s : Sums). s.sent) due.sums_are);
+            run_fits = omega (arith, few.1, ap (λ (s : Sums). s.run) due.sums_are);
+          },
+        )
 
     pub total_unbroken : first_broken (local_at before barrier.here) (Puts to (this_total to sums ∷ [])) ≡ None
     total_unbroken =

@@ -1,8 +1,7 @@
 -- Puts of Totals, one after another.
-use Rattle.std.proofs.Common.{◌≡◌, ◌⊎◌, ℕ, ◌+◌, ◌<◌, ◌≤◌, Bool, true, false, cond, nat_eq, nat_lt, ne_eqb, suc, inl, inr, List, [], ◌∷◌, ◌++◌, append_assoc, refl, sym, ap, ◌∙◌, subst, arith}
+use Rattle.std.proofs.Common.{◌≡◌, ℕ, ◌+◌, ◌≤◌, Bool, true, false, cond, nat_eq, nat_lt, ne_eqb, suc, inl, inr, List, ◌++◌, append_assoc, refl, sym, ap, ◌∙◌, subst, arith}
 use Rattle.std.proofs.lemmas.Bool.{cases_lt, ltb-false, ltb-true}
 use Rattle.msg_codec.specs.declared.letter.Letter.{Letter}
-use Rattle.world_core.specs.declared.entry.Entry.{Entry}
 use Rattle.world_core.specs.Counts.{counts}
 use Rattle.world_core.specs.Post.{PostState, SameFulls, local_at}
 use Rattle.world_core.specs.Rounds.{Sums}
@@ -13,7 +12,7 @@ use Rattle.comm_rank.specs.Fold.{Applies}
 use Rattle.comm_rank.specs.Turns.{PutsKeep}
 use Rattle.comm_rank.specs.Rank.{Rank, held_letters}
 use Rattle.comm_rank.proofs.Moves.OnePut.{keeps_then}
-use Rattle.term_barrier.specs.Barriers.{BarrierState, HasEveryCount, HasTotalsDue, IsNextTotal, IsTotalDue, destination, round_sums, with_total_put}
+use Rattle.term_barrier.specs.Barriers.{BarrierState, HasTotalsDue, IsNextTotal, IsTotalDue, destination, round_sums, with_total_put}
 use Rattle.term_barrier.specs.Polls.{HasPutControls, PutsControl, Stands}
 
 -- ---- puts, and more puts
@@ -94,7 +93,7 @@ module _ {C : Type 0} (apply : Applies C) (start : C → C) (me : Rank C) (old :
         TotalsPut apply start me (suc k) old new before after
     totals_more new after put fulls controls stands =
         let is : new ≡ with_total_put (record old { next = k }) (destination old.layout.ranks k) =
-            put ∙ ap (λ b. with_total_put b (destination old.layout.ranks k)) now_is in
+        put ∙ ap (λ b. with_total_put b (destination old.layout.ranks k)) now_is in
         let either = with_total_is (nat_lt k old.layout.ranks) refl in
         record {
           stands = stands;

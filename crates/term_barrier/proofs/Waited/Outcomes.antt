@@ -72,7 +72,7 @@ pub entered_waits : {C : Type 0} (apply : Applies C) (start : C → C) (outside 
 entered_waits {C} apply start outside entered me now post enters same going stands =
     let inside : BarrierState = record outside { inside = true } in
     let first : HasWaited apply start inside inside me me post post =
-        waited_first apply start inside me post refl going (stands_inside apply start outside me post stands) in
+    waited_first apply start inside me post refl going (stands_inside apply start outside me post stands) in
     subst (λ (rank : Rank C). HasWaited apply start inside entered me rank post post) (sym same)
     (subst (λ barrier. HasWaited apply start inside barrier me me post post) (sym enters) first)
 

@@ -1,11 +1,10 @@
-use Rattle.std.proofs.Common.{◌≡◌, ◌<◌, ◌≤◌, ◌-◌, ℕ, true, false, Ok, [], ap, ◌∙◌, sym, subst, arith}
-use Rattle.world_core.specs.Post.{PostState}
+use Rattle.std.proofs.Common.{◌≡◌, ◌<◌, ◌≤◌, ◌-◌, true, false, Ok, [], ap, ◌∙◌, sym, subst, arith}
 use Rattle.comm_rank.specs.Turns.{PutsKeep}
 use Rattle.comm_rank.specs.Rank.{Rank, held_letters, local_of}
 use Rattle.term_barrier.specs.contracts.barrier.Barrier.{the_view}
 use Rattle.term_barrier.specs.Barriers.{BarrierState, with_letters}
-use Rattle.term_barrier.specs.Polls.{HasPutControls, IsSameBarrier, PolledLeft, Stands}
-use Rattle.term_barrier.proofs.Polls.AfterTurn.{handed_over, has_room, inside_still, polled_left, same_handed, same_left, same_put, stands_handed, stands_outside}
+use Rattle.term_barrier.specs.Polls.{IsSameBarrier, PolledLeft, Stands}
+use Rattle.term_barrier.proofs.Polls.AfterTurn.{has_room, inside_still, polled_left, same_handed, same_left, same_put, stands_handed, stands_outside}
 use Rattle.term_barrier.proofs.Polls.Reasons.{reason}
 use Rattle.term_barrier.proofs.barrier.Barrier.after_turn.Goals as goal
 
@@ -21,7 +20,7 @@ returns-then-self-left-clause-stands g c =
     let now : BarrierState = with_letters barrier me.controls in
     let is : now ≡ the_view c.self-2.inside = sym (c.self-2.view_is ∙ c.hear_all.ensures.heard) in
     let more : barrier.left < now.left =
-        omega (arith, c.if-self-left.true, ap (λ (b : BarrierState). b.left) c.self.view_is, ap (λ (b : BarrierState). b.left) is) in
+    omega (arith, c.if-self-left.true, ap (λ (b : BarrierState). b.left) c.self.view_is, ap (λ (b : BarrierState). b.left) is) in
     subst (λ (b : BarrierState). Stands g.H.Handler.apply g.H.Handler.start (record b { inside = false }) c.hear_all.new.comm post) is
     (subst (λ (r : Rank g.row.H.Denot). Stands g.H.Handler.apply g.H.Handler.start (record now { inside = false }) r post) (sym c.hear_all.ensures.handed_over)
     (stands_outside g.H.Handler.apply g.H.Handler.start barrier me post c.requires.stands c.holds.ensures.in_range more))
@@ -36,12 +35,12 @@ returns-then-self-left-clause-answers g c = λ one before same ended.
     let left : c.self.inside.left ≡ barrier.left = ap (λ (b : BarrierState). b.left) c.self.view_is in
     let more : barrier.left < now.left = omega (arith, c.if-self-left.true, left, ap (λ (b : BarrierState). b.left) is) in
     let first : PolledLeft barrier (record now { inside = false }) (local_of me (post.log me.here)) barrier.left (now.known - 1) =
-        polled_left g.H.Handler.apply g.H.Handler.start barrier me post c.requires.stands c.holds.ensures.in_range more in
+    polled_left g.H.Handler.apply g.H.Handler.start barrier me post c.requires.stands c.holds.ensures.in_range more in
     let rank : PolledLeft barrier (record now { inside = false }) (local_of c.hear_all.new.comm (post.log c.hear_all.new.comm.here)) barrier.left (now.known - 1) =
-        subst (λ (r : Rank g.row.H.Denot). PolledLeft barrier (record now { inside = false }) (local_of r (post.log r.here)) barrier.left (now.known - 1))
-        (sym c.hear_all.ensures.handed_over) first in
+    subst (λ (r : Rank g.row.H.Denot). PolledLeft barrier (record now { inside = false }) (local_of r (post.log r.here)) barrier.left (now.known - 1))
+    (sym c.hear_all.ensures.handed_over) first in
     let there : PolledLeft barrier (record now { inside = false }) (local_of c.hear_all.new.comm (post.log c.hear_all.new.comm.here)) c.self.inside.left (now.known - 1) =
-        subst (λ n. PolledLeft barrier (record now { inside = false }) (local_of c.hear_all.new.comm (post.log c.hear_all.new.comm.here)) n (now.known - 1)) (sym left) rank in
+    subst (λ n. PolledLeft barrier (record now { inside = false }) (local_of c.hear_all.new.comm (post.log c.hear_all.new.comm.here)) n (now.known - 1)) (sym left) rank in
     subst (λ (b : BarrierState). PolledLeft barrier (record b { inside = false }) (local_of c.hear_all.new.comm (post.log c.hear_all.new.comm.here)) c.self.inside.left (b.known - 1)) is there
 
 pub returns-then-self-left-clause-barrier : goal.returns-then-self-left-clause-barrier
@@ -84,20 +83,21 @@ returns-clause-answers g c = λ one before same ended.
     let all_handed : rank.controls ≡ [] = ap (λ (r : Rank g.row.H.Denot). r.controls) c.hear_all.ensures.handed_over in
     let ok : c.put_controls-put.result ≡ Ok c.in_ok-full.full = c.in_ok-full.was in
     let within : told.left ≤ barrier.left =
-        omega (arith, c.if-self-left.false, ap (λ (b : BarrierState). b.left) c.self.view_is, ap (λ (b : BarrierState). b.left) c.self-2.view_is) in
+    omega (arith, c.if-self-left.false, ap (λ (b : BarrierState). b.left) c.self.view_is, ap (λ (b : BarrierState). b.left) c.self-2.view_is) in
     let heard_left : told.left ≡ barrier.left =
-        ap (λ (b : BarrierState). b.left) c.hear_all.ensures.heard
-        ∙ same_left g.H.Handler.apply g.H.Handler.start barrier me post c.requires.stands c.holds.ensures.in_range
-        (omega (arith, within, ap (λ (b : BarrierState). b.left) c.hear_all.ensures.heard)) in
+    ap (λ (b : BarrierState). b.left) c.hear_all.ensures.heard
+    ∙ same_left g.H.Handler.apply g.H.Handler.start barrier me post c.requires.stands c.holds.ensures.in_range
+    (omega (arith, within, ap (λ (b : BarrierState). b.left) c.hear_all.ensures.heard)) in
     let inside : told.inside ≡ true =
-        ap (λ (b : BarrierState). b.inside) c.hear_all.ensures.heard
-        ∙ inside_still g.H.Handler.apply g.H.Handler.start barrier me post c.requires.stands c.holds.ensures.in_range ∙ c.requires.inside in
-    (record { same_left = ap (λ (b : BarrierState). b.left) put.barrier ∙ heard_left; inside = ap (λ (b : BarrierState). b.inside) put.barrier ∙ inside },
-    reason g.H.Handler.apply g.H.Handler.start one me before post after c.args.turn same ended
-    (subst (λ h. PutsKeep h post after) here put.keeps) new rank c.in_ok-full.full c.why.result c.holds-3.ensures.in_range all_handed
-    c.hear_all.ensures.handed_over c.put_controls-put.ensures.stands c.in_ok-full.ensures.full
-    (λ none. c.put_controls-put.ensures.count_put (ok ∙ ap Ok none)) (λ none. c.put_controls-put.ensures.totals_put (ok ∙ ap Ok none))
-    c.why.ensures.worked c.why.ensures.link c.why.ensures.other)
+    ap (λ (b : BarrierState). b.inside) c.hear_all.ensures.heard
+    ∙ inside_still g.H.Handler.apply g.H.Handler.start barrier me post c.requires.stands c.holds.ensures.in_range ∙ c.requires.inside in (
+      record { same_left = ap (λ (b : BarrierState). b.left) put.barrier ∙ heard_left; inside = ap (λ (b : BarrierState). b.inside) put.barrier ∙ inside },
+      reason g.H.Handler.apply g.H.Handler.start one me before post after c.args.turn same ended
+          (subst (λ h. PutsKeep h post after) here put.keeps) new rank c.in_ok-full.full c.why.result c.holds-3.ensures.in_range all_handed
+          c.hear_all.ensures.handed_over c.put_controls-put.ensures.stands c.in_ok-full.ensures.full
+          (λ none. c.put_controls-put.ensures.count_put (ok ∙ ap Ok none)) (λ none. c.put_controls-put.ensures.totals_put (ok ∙ ap Ok none))
+          c.why.ensures.worked c.why.ensures.link c.why.ensures.other,
+    )
 
 pub returns-clause-barrier : goal.returns-clause-barrier
 returns-clause-barrier g c =

@@ -1,4 +1,4 @@
-use Rattle.std.proofs.Common.{◌≡◌, List, [], ◌∷◌, ap, ◌∙◌, sym, subst}
+use Rattle.std.proofs.Common.{◌≡◌, List, ◌∷◌, ap, ◌∙◌, sym, subst}
 use Rattle.msg_codec.specs.Control.{letter_of_control}
 use Rattle.msg_codec.specs.declared.letter.Letter.{Letter}
 use Rattle.comm_rank.specs.Rank.{Rank}

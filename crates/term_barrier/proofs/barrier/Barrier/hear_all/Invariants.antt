@@ -1,4 +1,4 @@
-use Rattle.std.proofs.Common.{◌≡◌, ℕ, length}
+use Rattle.std.proofs.Common.{◌≡◌, length}
 use Rattle.term_barrier.specs.Barriers.{HasRoom, with_letters}
 use Rattle.term_barrier.proofs.barrier.Barrier.hear_all.Given as goal
 

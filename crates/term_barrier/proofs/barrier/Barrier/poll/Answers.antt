@@ -1,7 +1,6 @@
-use Rattle.std.proofs.Common.{◌≡◌, true, false, ap, ◌∙◌, sym, subst}
+use Rattle.std.proofs.Common.{◌≡◌, false, ap, ◌∙◌}
 use Rattle.std.proofs.lemmas.Result.{IfErr-weaker, IfOk-weaker}
-use Rattle.comm_rank.specs.Rank.{IsSameRank, Rank}
-use Rattle.term_barrier.specs.Polls.{PollEnded}
+use Rattle.comm_rank.specs.Rank.{Rank}
 use Rattle.term_barrier.proofs.Polls.Ended.{keeps_failed, keeps_poll, poll_ended, put_failed, same_going, stands_turned}
 use Rattle.term_barrier.proofs.barrier.Barrier.poll.Goals as goal
 
@@ -13,7 +12,7 @@ after_turn-polled-requires-clause-stands g c =
 pub returns-then-is_err-clause-failed : goal.returns-then-is_err-clause-failed
 returns-then-is_err-clause-failed g c =
     let going : c.after_turn-polled.new.comm.stopped ≡ false =
-        ap (λ (r : Rank g.row.H.Denot). r.stopped) c.after_turn-polled.ensures.after.handed_over ∙ ap (λ (r : Rank g.row.H.Denot). r.stopped) c.in_ok-turn.ensures.rank in
+    ap (λ (r : Rank g.row.H.Denot). r.stopped) c.after_turn-polled.ensures.after.handed_over ∙ ap (λ (r : Rank g.row.H.Denot). r.stopped) c.in_ok-turn.ensures.rank in
     IfErr-weaker c.after_turn-polled.result _ _
     (λ fault no_memory. put_failed g.H.Handler.apply g.H.Handler.start c.args.self.now c.args.comm.now c.turn.new.self c.after_turn-polled.new.comm
     (g.P.Post.state c.args.post.now) (g.P.Post.state c.turn.new.post) (g.P.Post.state c.after_turn-polled.new.post) (g.P.Post.state c.halt.new.post) c.in_ok-turn.turn

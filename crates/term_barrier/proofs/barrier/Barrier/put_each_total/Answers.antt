@@ -1,10 +1,9 @@
-use Rattle.std.proofs.Common.{◌≡◌, ℕ, suc, ◌+◌, ◌<◌, ◌≤◌, Bool, true, false, Ok, List, [], ◌∷◌, refl, ap, ◌∙◌, sym, subst, arith}
+use Rattle.std.proofs.Common.{◌≡◌, suc, ◌+◌, ◌≤◌, Ok, refl, ap, ◌∙◌, sym, subst, arith}
 use Rattle.comm_rank.specs.Rank.{held_letters}
 use Rattle.comm_rank.proofs.Moves.OnePut.{keeps_none}
 use Rattle.term_barrier.specs.Barriers.{BarrierState, destination, with_total_put}
-use Rattle.term_barrier.specs.Polls.{HasPutControls}
 use Rattle.term_barrier.proofs.Puts.Moved.{put_none}
-use Rattle.term_barrier.proofs.Puts.Totals.{TotalsPut, controls_then, total_is_due, totals_first, totals_more}
+use Rattle.term_barrier.proofs.Puts.Totals.{TotalsPut, controls_then, totals_first, totals_more}
 use Rattle.term_barrier.proofs.barrier.Barrier.put_each_total.Goals as goal
 
 pub loop-next-init : goal.loop-next-init
@@ -13,7 +12,7 @@ loop-next-init g c =
     let barrier = c.args.self.now in
     let next : c.self.inside.next ≡ barrier.next = ap (λ (b : BarrierState). b.next) c.self.view_is in
     let within : barrier.next ≤ barrier.layout.ranks =
-        omega (arith, c.self.invariant.next_within.1, next, ap (λ (b : BarrierState). b.layout.ranks) c.self.view_is) in
+    omega (arith, c.self.invariant.next_within.1, next, ap (λ (b : BarrierState). b.layout.ranks) c.self.view_is) in
     record {
       comm = refl;
       sums = refl;
@@ -41,10 +40,10 @@ loop-next-preserved g c =
     let new = g.P.Post.state c.put_total.new.post in
     let ranks : c.ranks-ranks.result ≡ barrier.layout.ranks = c.ranks-ranks.ensures.value ∙ ap (λ (b : BarrierState). b.layout.ranks) c.self.view_is in
     let to : c.destination-to.result ≡ destination barrier.layout.ranks c.loop-next.next =
-        c.destination-to.ensures ∙ ap (λ n. destination n c.loop-next.next) ranks in
+    c.destination-to.ensures ∙ ap (λ n. destination n c.loop-next.next) ranks in
     let put = c.put_total.ensures.put (c.in_ok-put_total.was ∙ ap Ok c.if-not-branch.false) in
     let is : c.put_total.new.self ≡ with_total_put c.loop-next.self (destination barrier.layout.ranks c.loop-next.next) =
-        put.0 ∙ ap (with_total_put c.loop-next.self) to in
+    put.0 ∙ ap (with_total_put c.loop-next.self) to in
     let number : suc c.loop-next.next ≡ c.loop-next.next + 1 = omega arith in
     record {
       comm = refl;

@@ -1,4 +1,4 @@
-use Rattle.std.proofs.Common.{◌≡◌, ◌≤◌, ◌+◌, ℕ}
+use Rattle.std.proofs.Common.{◌≡◌}
 use Rattle.term_barrier.proofs.Puts.Totals.{TotalsPut}
 use Rattle.term_barrier.proofs.barrier.Barrier.put_each_total.Given as goal
 

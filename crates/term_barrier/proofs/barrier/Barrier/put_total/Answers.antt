@@ -1,4 +1,4 @@
-use Rattle.std.proofs.Common.{◌≡◌, ℕ, ◌<◌, ◌≤◌, ◌^◌, Bool, true, false, List, [], ◌∷◌, ap, ◌∙◌, sym, subst, arith}
+use Rattle.std.proofs.Common.{◌≡◌, Bool, true, [], ◌∷◌, ap, ◌∙◌, sym, subst}
 use Rattle.msg_codec.specs.Control.{letter_of_control}
 use Rattle.msg_codec.specs.declared.control.Control.TheVariants.{Total}
 use Rattle.world_core.specs.Post.{PutDone, PutFoundFull}
@@ -17,10 +17,10 @@ put_letter-requires-clause-honest g c =
     let barrier : BarrierState = the_view c.self.inside in
     let sums : Sums = sums_view c.sums.inside in
     let stands : Stands g.H.Handler.apply g.H.Handler.start barrier c.args.comm.now old =
-        subst (λ (b : BarrierState). Stands g.H.Handler.apply g.H.Handler.start b c.args.comm.now old) (sym c.self.view_is) c.requires.stands in
+    subst (λ (b : BarrierState). Stands g.H.Handler.apply g.H.Handler.start b c.args.comm.now old) (sym c.self.view_is) c.requires.stands in
     let due : IsTotalDue barrier c.args.to sums =
-        subst (λ (s : Sums). IsTotalDue barrier c.args.to s) (sym c.sums.view_is)
-        (subst (λ (b : BarrierState). IsTotalDue b c.args.to c.args.sums) (sym c.self.view_is) c.requires.due) in
+    subst (λ (s : Sums). IsTotalDue barrier c.args.to s) (sym c.sums.view_is)
+    (subst (λ (b : BarrierState). IsTotalDue b c.args.to c.args.sums) (sym c.self.view_is) c.requires.due) in
     let first : barrier.here ≡ 0 = ap (λ (b : BarrierState). b.here) c.self.view_is ∙ c.requires.first_rank in
     total_unbroken g.H.Handler.apply g.H.Handler.start barrier c.args.comm.now old stands c.self.invariant c.requires.all_handed
     first c.args.to sums due c.ranges.to.fits
@@ -40,7 +40,7 @@ returns-then-not-branch-clause-controls g c =
     let new = g.P.Post.state c.put_letter.new.post in
     let l = letter_of_control (Total c.args.to c.self.inside.over c.sums.inside.sent c.sums.inside.run) in
     let full : PutFoundFull c.self.inside.here c.args.to old new =
-        subst (λ (b : Bool). PutsLetter b c.self.inside.here c.args.to l old new) c.if-not-branch.true c.in_ok-put_letter.ensures.put in
+    subst (λ (b : Bool). PutsLetter b c.self.inside.here c.args.to l old new) c.if-not-branch.true c.in_ok-put_letter.ensures.put in
     subst (λ (b : BarrierState). HasPutControls (held_letters c.args.comm.now) b b old new) c.self.view_is
     (put_none (held_letters c.args.comm.now) (the_view c.self.inside) old new full.log
     (keeps_full c.self.inside.here c.args.to old new c.in_ok-put_letter.ensures.keeps full.fulls))
@@ -52,17 +52,17 @@ returns-clause-controls g c =
     let barrier : BarrierState = the_view c.self.inside in
     let sums : Sums = sums_view c.sums.inside in
     let stands : Stands g.H.Handler.apply g.H.Handler.start barrier c.args.comm.now old =
-        subst (λ (b : BarrierState). Stands g.H.Handler.apply g.H.Handler.start b c.args.comm.now old) (sym c.self.view_is) c.requires.stands in
+    subst (λ (b : BarrierState). Stands g.H.Handler.apply g.H.Handler.start b c.args.comm.now old) (sym c.self.view_is) c.requires.stands in
     let due : IsTotalDue barrier c.args.to sums =
-        subst (λ (s : Sums). IsTotalDue barrier c.args.to s) (sym c.sums.view_is)
-        (subst (λ (b : BarrierState). IsTotalDue b c.args.to c.args.sums) (sym c.self.view_is) c.requires.due) in
+    subst (λ (s : Sums). IsTotalDue barrier c.args.to s) (sym c.sums.view_is)
+    (subst (λ (b : BarrierState). IsTotalDue b c.args.to c.args.sums) (sym c.self.view_is) c.requires.due) in
     let first : barrier.here ≡ 0 = ap (λ (b : BarrierState). b.here) c.self.view_is ∙ c.requires.first_rank in
     let l = letter_of_control (Total c.args.to c.self.inside.over c.sums.inside.sent c.sums.inside.run) in
     let done : PutDone c.self.inside.here c.args.to (l ∷ []) old new =
-        subst (λ (b : Bool). PutsLetter b c.self.inside.here c.args.to l old new) c.if-not-branch.false c.in_ok-put_letter.ensures.put in
+    subst (λ (b : Bool). PutsLetter b c.self.inside.here c.args.to l old new) c.if-not-branch.false c.in_ok-put_letter.ensures.put in
     let held = held_letters c.args.comm.now in
     let now = total_controls g.H.Handler.apply g.H.Handler.start barrier c.args.comm.now old stands c.self.invariant c.requires.all_handed
-        first c.args.to sums due c.ranges.to.fits new done c.in_ok-put_letter.ensures.keeps in
+    first c.args.to sums due c.ranges.to.fits new done c.in_ok-put_letter.ensures.keeps in
     subst (λ (b : BarrierState). HasPutControls held c.args.self.now b old new) (sym c.has_put_total.ensures.noted)
     (subst (λ (b : BarrierState). HasPutControls held b (with_total_put b c.args.to) old new) c.self.view_is now)
 
@@ -73,16 +73,16 @@ returns-clause-stands g c =
     let barrier : BarrierState = the_view c.self.inside in
     let sums : Sums = sums_view c.sums.inside in
     let stands : Stands g.H.Handler.apply g.H.Handler.start barrier c.args.comm.now old =
-        subst (λ (b : BarrierState). Stands g.H.Handler.apply g.H.Handler.start b c.args.comm.now old) (sym c.self.view_is) c.requires.stands in
+    subst (λ (b : BarrierState). Stands g.H.Handler.apply g.H.Handler.start b c.args.comm.now old) (sym c.self.view_is) c.requires.stands in
     let due : IsTotalDue barrier c.args.to sums =
-        subst (λ (s : Sums). IsTotalDue barrier c.args.to s) (sym c.sums.view_is)
-        (subst (λ (b : BarrierState). IsTotalDue b c.args.to c.args.sums) (sym c.self.view_is) c.requires.due) in
+    subst (λ (s : Sums). IsTotalDue barrier c.args.to s) (sym c.sums.view_is)
+    (subst (λ (b : BarrierState). IsTotalDue b c.args.to c.args.sums) (sym c.self.view_is) c.requires.due) in
     let first : barrier.here ≡ 0 = ap (λ (b : BarrierState). b.here) c.self.view_is ∙ c.requires.first_rank in
     let l = letter_of_control (Total c.args.to c.self.inside.over c.sums.inside.sent c.sums.inside.run) in
     let done : PutDone c.self.inside.here c.args.to (l ∷ []) old new =
-        subst (λ (b : Bool). PutsLetter b c.self.inside.here c.args.to l old new) c.if-not-branch.false c.in_ok-put_letter.ensures.put in
+    subst (λ (b : Bool). PutsLetter b c.self.inside.here c.args.to l old new) c.if-not-branch.false c.in_ok-put_letter.ensures.put in
     let inside : barrier.inside ≡ true = ap (λ (b : BarrierState). b.inside) c.self.view_is ∙ c.requires.inside in
     let now = total_stands g.H.Handler.apply g.H.Handler.start barrier c.args.comm.now old stands c.self.invariant c.requires.all_handed
-        first c.args.to sums due c.ranges.to.fits new done c.in_ok-put_letter.ensures.keeps inside in
+    first c.args.to sums due c.ranges.to.fits new done c.in_ok-put_letter.ensures.keeps inside in
     subst (λ (b : BarrierState). Stands g.H.Handler.apply g.H.Handler.start b c.args.comm.now new) (sym c.has_put_total.ensures.noted)
     (subst (λ (b : BarrierState). Stands g.H.Handler.apply g.H.Handler.start (with_total_put b c.args.to) c.args.comm.now new) c.self.view_is now)

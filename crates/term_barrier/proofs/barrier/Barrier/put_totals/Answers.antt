@@ -1,4 +1,4 @@
-use Rattle.std.proofs.Common.{◌≡◌, ◌<◌, ◌≤◌, ap, arith}
+use Rattle.std.proofs.Common.{◌≤◌, arith}
 use Rattle.world_core.specs.Limits.{most_arrived}
 use Rattle.comm_rank.specs.Rank.{local_of}
 use Rattle.term_barrier.specs.Barriers.{HasTotalsDue, round_sums}
@@ -18,14 +18,14 @@ pub round_sums-sums-requires-clause-few : goal.round_sums-sums-requires-clause-f
 round_sums-sums-requires-clause-few g c =
     let due : HasTotalsDue c.args.self.now = c.has_totals_due.ensures.due c.if-not-has_totals_due.false in
     let few : (round_sums c.args.self.now).sent ≤ most_arrived =
-        (few_sums g.H.Handler.apply g.H.Handler.start c.args.self.now c.args.comm.now (g.P.Post.state c.args.post.now)
-        c.requires.stands c.holds.ensures.in_range c.requires.all_handed due.every).0 in
+    (few_sums g.H.Handler.apply g.H.Handler.start c.args.self.now c.args.comm.now (g.P.Post.state c.args.post.now)
+    c.requires.stands c.holds.ensures.in_range c.requires.all_handed due.every).0 in
     few
 
 pub round_sums-sums-requires-clause-few_run : goal.round_sums-sums-requires-clause-few_run
 round_sums-sums-requires-clause-few_run g c =
     let due : HasTotalsDue c.args.self.now = c.has_totals_due.ensures.due c.if-not-has_totals_due.false in
     let few : (round_sums c.args.self.now).run ≤ most_arrived =
-        (few_sums g.H.Handler.apply g.H.Handler.start c.args.self.now c.args.comm.now (g.P.Post.state c.args.post.now)
-        c.requires.stands c.holds.ensures.in_range c.requires.all_handed due.every).1 in
+    (few_sums g.H.Handler.apply g.H.Handler.start c.args.self.now c.args.comm.now (g.P.Post.state c.args.post.now)
+    c.requires.stands c.holds.ensures.in_range c.requires.all_handed due.every).1 in
     few

@@ -1,4 +1,4 @@
-use Rattle.std.proofs.Common.{◌≡◌, ℕ}
+use Rattle.std.proofs.Common.{◌≡◌}
 use Rattle.list_facts.specs.Sums.{sum_upto}
 use Rattle.term_barrier.specs.Barriers.{heard_of, sums_heard_at}
 use Rattle.term_barrier.proofs.barrier.Barrier.round_sums.Given as goal
