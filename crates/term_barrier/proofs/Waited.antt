@@ -1,3 +1,4 @@
 pub mod Polled
 pub mod Kept
+pub mod Counted
 pub mod Outcomes

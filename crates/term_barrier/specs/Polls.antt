@@ -6,8 +6,9 @@ use Rattle.msg_codec.specs.Control.{is_control}
 use Rattle.msg_codec.specs.declared.letter.Letter.{Letter}
 use Rattle.world_core.specs.declared.entry.Entry.{Entry}
 use Rattle.world_core.specs.declared.entry.Entry.TheVariants.{Put, Took}
-use Rattle.world_core.specs.Counts.{count_taken, counts, total_taken, totals}
+use Rattle.world_core.specs.Counts.{before_count, count_taken, counts, total_taken, totals}
 use Rattle.world_core.specs.Local.{Local}
+use Rattle.world_core.specs.Pairs.{arrived, of_pair, pair_put}
 use Rattle.world_core.specs.Post.{PostState, PutDone, PutFoundFull, SameFulls, SameStops, local_at}
 use Rattle.world_core.specs.Rising.{Rose}
 use Rattle.world_core.specs.Rules.{IsHonest}
@@ -17,7 +18,7 @@ use Rattle.comm_rank.specs.declared.turn.Turn.{Turn}
 use Rattle.comm_rank.specs.Agrees.{Belongs, MayTurn}
 use Rattle.comm_rank.specs.Fault.{IfStopped, UnlessStopped}
 use Rattle.comm_rank.specs.Fold.{Applies}
-use Rattle.comm_rank.specs.Rank.{IsSameRank, Rank, held_letters, local_of}
+use Rattle.comm_rank.specs.Rank.{IsSameRank, Rank, handed, held_letters, local_of, sent_to}
 use Rattle.comm_rank.specs.Turns.{Advanced, HasFailed, HasHalted, KeepsPost, LookedAt, PutsKeep, Turned}
 use Rattle.term_barrier.specs.declared.polled.Polled.{Polled}
 use Rattle.term_barrier.specs.declared.polled.Polled.TheVariants.{Left, Waiting as Waits}
@@ -186,11 +187,25 @@ pub record IsSameBarrier (old new : BarrierState) : Type 0 where
 
 -- ---- the outcomes of a whole barrier
 
--- Polls that waited: the rank is still inside the barrier that it entered, and these letters ran since.
+-- Before this Count the rank had put all that it had sent at an earlier log, and all that its handler gave by the letters
+-- that arrived since then.
+pub record PutAllBefore {C : Type 0} (apply : Applies C) (me : Rank C) (before after : List Entry) (q : ℕ) : Type 0 where
+  pub ran : List Letter
+  pub came : arrived me.here (before_count q after) ≡ arrived me.here before ++ ran
+  pub all_put : (to : ℕ) → pair_put me.here to (before_count q after) ≡ sent_to me before to ++ of_pair me.here to (handed apply me ran)
+
+-- this holds of each Count that the log gained since
+abbrev pub PutAllBeforeCounts : {C : Type 0} → Applies C → Rank C → List Entry → List Entry → Type 0
+PutAllBeforeCounts apply me before after = (q : ℕ) → counts before ≤ q → q < counts after → PutAllBefore apply me before after q
+
+-- Polls that waited: the rank is still inside the barrier that it entered, and these letters ran since. None waited to run
+-- as it entered.
 pub record HasWaited {C : Type 0} (apply : Applies C) (start : C → C) (old new : BarrierState) (one me : Rank C) (before after : PostState) : Type 0 where
   pub run : List Letter
   pub advanced : Advanced apply one me (before.log one.here) (after.log one.here) run
   pub grown : IsPrefix (before.log one.here) (after.log one.here)
+  pub none_waited : one.waiting ≡ []
+  pub counted : PutAllBeforeCounts apply one (before.log one.here) (after.log one.here)
   pub stands : Stands apply start new me after
   pub same : IsSameBarrier old new
   pub waits : PolledWaiting old new
@@ -205,6 +220,7 @@ pub record BarrierEnded {C : Type 0} (apply : Applies C) (start : C → C) (old 
   pub run : List Letter
   pub advanced : Advanced apply one me (before.log one.here) (after.log one.here) run
   pub grown : IsPrefix (before.log one.here) (after.log one.here)
+  pub counted : PutAllBeforeCounts apply one (before.log one.here) (after.log one.here)
   pub stands : Stands apply start new me after
   pub left : PolledLeft old new (local_of me (after.log one.here)) number round
   pub stops : SameStops before after

@@ -60,6 +60,7 @@ impl Barrier {
         requires outside { self.old.inside ≡ false }
         ensures ended { IfOk result (λ what. BarrierEnded H.apply H.start self.old self.new comm.old comm.new (P.state post.old) (P.state post.new) what.0 what.1) }
         ensures failed { IfErr result (BarrierFailed H.apply H.start (record self.old { inside = true }) comm.old comm.new (P.state post.old) (P.state post.new)) }
+        ensures sees_the_stop { (rank : ℕ) → IsTrue ((P.state post.old).serves rank) → (P.state post.old).raised rank ≡ true → result ≡ Err Stopped }
         ensures rank { RankWorked (record comm.old { stopped = is_err result }) comm.new }
         ensures post { KeepsPost comm.old (P.state post.old) (P.state post.new) }
         ensures barrier { IsSameBarrier self.old self.new }

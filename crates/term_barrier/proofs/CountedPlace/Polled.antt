@@ -43,6 +43,17 @@ controls_taken (Took from letters ∷ controls) each = absurd each.0
 pub controls_move_none : (here : ℕ) (controls : List Entry) → AllByRecursion PutsControl controls → MovesNone here controls
 controls_move_none here controls each = moves_none here controls (controls_put controls each) (rw (controls_taken controls each) tt)
 
+-- The log before a Count that is one of these puts: the log that they were put to, and the first of them.
+pub before_among : (q : ℕ) (log controls : List Entry) → counts log ≤ q →
+    (first : List Entry) × (later : List Entry) × (first ++ later ≡ controls) × (before_count q (log ++ controls) ≡ log ++ first)
+before_among q log controls least =
+    let first = before_grows q log controls in
+    let later = before_part q (log ++ controls) in
+    let place : before_count q (log ++ controls) ≡ log ++ first.rest =
+    sym (ap (λ es. es ++ first.rest) (sym (before_all q log least)) ∙ first.joined) in
+    let log_is : (log ++ first.rest) ++ later.rest ≡ log ++ controls = ap (λ es. es ++ later.rest) (sym place) ∙ later.joined in
+    (first.rest, later.rest, append_cancel_left log _ _ (sym (append_assoc log first.rest later.rest) ∙ log_is), place)
+
 -- ---- a turn
 
 pub turn_counts : {C : Type 0} (apply : Applies C) (old new : Rank C) (before after : List Entry) (turn : Turn) (turned : Turned apply old new before after turn) →
@@ -139,23 +150,23 @@ module _ {C : Type 0} (apply : Applies C) (start : C → C)
       IsCountedPlace handler (own phase) (phase_start cut phase) (length (before_count q after)) (held_letters new) after
   count_then own cut phase account q least put =
       let held = held_letters new in
-      let whole : before_count q middle ≡ middle = before_all q middle (omega (arith, least, middle_counts)) in
-      let first = before_grows q middle controls in
-      let later = before_part q (middle ++ controls) in
-      let place : before_count q (middle ++ controls) ≡ middle ++ first.rest = sym (ap (λ es. es ++ first.rest) (sym whole) ∙ first.joined) in
-      let log_is : (middle ++ first.rest) ++ later.rest ≡ middle ++ controls = ap (λ es. es ++ later.rest) (sym place) ∙ later.joined in
-      let parts : first.rest ++ later.rest ≡ controls = append_cancel_left middle _ _ (sym (append_assoc middle first.rest later.rest) ∙ log_is) in
-      let each : AllByRecursion PutsControl (first.rest ++ later.rest) = subst (AllByRecursion PutsControl) (sym parts) gained.each in
+      let among = before_among q middle controls (omega (arith, least, middle_counts)) in
+      let first = among.0 in
+      let later = among.1 in
+      let parts : first ++ later ≡ controls = among.2 in
+      let place : before_count q (middle ++ controls) ≡ middle ++ first = among.3 in
+      let log_is : (middle ++ first) ++ later ≡ middle ++ controls = append_assoc middle first later ∙ ap (λ es. middle ++ es) parts in
+      let each : AllByRecursion PutsControl (first ++ later) = subst (AllByRecursion PutsControl) (sym parts) gained.each in
       let none : held ≡ [] = gained.none_held (omega (arith, least, put, after_counts)) in
-      let account_first : Account handler own cut phase held (middle ++ first.rest) =
-      account_unmoved handler held middle first.rest (controls_move_none new.here first.rest (all_first PutsControl first.rest later.rest each))
+      let account_first : Account handler own cut phase held (middle ++ first) =
+      account_unmoved handler held middle first (controls_move_none new.here first (all_first PutsControl first later each))
       own cut phase (account_middle own cut phase account) in
-      let counted : IsCountedPlace handler (own phase) (phase_start cut phase) (length (middle ++ first.rest)) held ((middle ++ first.rest) ++ later.rest) =
-      counted_put handler held (middle ++ first.rest) later.rest (controls_move_none new.here later.rest (all_second PutsControl first.rest later.rest each))
+      let counted : IsCountedPlace handler (own phase) (phase_start cut phase) (length (middle ++ first)) held ((middle ++ first) ++ later) =
+      counted_put handler held (middle ++ first) later (controls_move_none new.here later (all_second PutsControl first later each))
       own cut phase (λ to. ap (of_pair new.here to) none) account_first in
       subst (λ log. IsCountedPlace handler (own phase) (phase_start cut phase) (length (before_count q log)) held log) (sym gained.log)
       (subst (λ es. IsCountedPlace handler (own phase) (phase_start cut phase) (length es) held (middle ++ controls)) (sym place)
-      (subst (IsCountedPlace handler (own phase) (phase_start cut phase) (length (middle ++ first.rest)) held) log_is counted))
+      (subst (IsCountedPlace handler (own phase) (phase_start cut phase) (length (middle ++ first)) held) log_is counted))
 
   places_then : (own : ℕ → ℕ → List Letter) (cut : ℕ → ℕ) (phase first : ℕ) → Account (handler_of apply start old) own cut phase (held_letters old) before →
       AreCountedPlaces (handler_of apply start old) (own phase) (phase_start cut phase) first (held_letters old) before →
