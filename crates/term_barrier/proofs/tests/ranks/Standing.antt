@@ -17,13 +17,13 @@ use Rattle.comm_rank.specs.Agrees.{MayTurn}
 use Rattle.comm_rank.specs.Fold.{Applies}
 use Rattle.comm_rank.specs.Rank.{IsSameRank, Rank, Worked, fresh_rank, local_of}
 use Rattle.comm_rank.specs.Turns.{HasEnded}
-use Rattle.comm_rank.proofs.Rank.Same.{belongs_still}
 use Rattle.comm_rank.proofs.Settled.AreRanks.{belongs_new, may_turn_data}
 use Rattle.term_barrier.specs.declared.polled.Polled.{Polled}
 use Rattle.term_barrier.specs.declared.tests.ranks.Member.{Member}
 use Rattle.term_barrier.specs.Barriers.{BarrierAgrees, BarrierState, fresh_barrier}
 use Rattle.term_barrier.specs.Polls.{PollEnded, Stands}
 use Rattle.term_barrier.proofs.Barriers.Agrees.{agrees_fresh, agrees_turned}
+use Rattle.term_barrier.proofs.Polls.Stands.{stands_unchanged}
 
 module _ {C : Type 0} (apply : Applies C) (start : C → C) where
   -- a new rank, at new links
@@ -52,13 +52,7 @@ module _ {C : Type 0} (apply : Applies C) (start : C → C) where
 
     -- another rank took a turn
     pub stands_still : (here : ℕ) (after : PostState) → me.here ≢ here → SamePost here post after → Stands apply start barrier me after
-    stands_still here after other same =
-        let log : after.log me.here ≡ post.log me.here = same.other_logs me.here other in
-        record {
-          belongs = belongs_still apply start me here post after same log stands.belongs;
-          may_turn = subst (λ log. MayTurn me log) (sym log) stands.may_turn;
-          agrees = subst (λ log. BarrierAgrees barrier me.controls (local_of me log)) (sym log) stands.agrees;
-        }
+    stands_still here after other same = stands_unchanged apply start barrier me here post after same (same.other_logs me.here other) stands
 
   -- each rank of a list has the number of its place, and stands at the post unless it is stopped
   abbrev pub AllStand : List (Member C) → PostState → Type 0
@@ -91,12 +85,11 @@ module _ {C : Type 0} (apply : Applies C) (start : C → C) where
       let links = state_of (fresh_links layout Direct ring batches) in
       let is = each rank member e in
       let within : rank < layout.ranks = omega (arith, slice_get_within members rank member e, all) in
-      let stands = stands_new layout rank most rounds ring batches contents fresh within in
-      (
+      let stands = stands_new layout rank most rounds ring batches contents fresh within in (
         ap (λ (me : Rank C). me.here) is.0,
         λ going.
-        subst (λ me. Stands apply start member.barrier me links) (sym is.0)
-        (subst (λ barrier. Stands apply start barrier (fresh_rank layout Direct rank most contents) links) (sym is.1) stands),
+            subst (λ me. Stands apply start member.barrier me links) (sym is.0)
+            (subst (λ barrier. Stands apply start barrier (fresh_rank layout Direct rank most contents) links) (sym is.1) stands),
       )
 
   -- a poll ended, or its rank is stopped
