@@ -1,6 +1,6 @@
 -- A counting set: its items with their counts, in the order in which they were first added, and what
 -- letters do to it.
-use Rattle.std.specs.Prelude.{◌≡◌, ◌≢◌, ◌↔◌, ℕ, ◌+◌, ◌-◌, ◌^◌, ◌<◌, ◌==◌, ◌&&◌, nat_le, min, List, [], ◌∷◌, Option, Some, None, IfSome, if◌then◌else◌, bytes_eq, count_by, length, AllPairs, Contains}
+use Rattle.std.specs.Prelude.{◌≡◌, ◌≢◌, ◌↔◌, ℕ, ◌+◌, ◌-◌, ◌^◌, ◌<◌, ◌==◌, ◌&&◌, nat_le, min, List, [], ◌∷◌, Option, Some, None, IfSome, IsSomeAnd, if◌then◌else◌, bytes_eq, count_by, length, AllPairs, Contains}
 use Rattle.msg_codec.specs.declared.letter.Letter.{Letter}
 use Rattle.comm_rank.specs.Fold.{Applies}
 use Rattle.counting_set.specs.ItemCount.{item_count_of, spelled_item_count}
@@ -44,6 +44,10 @@ share item (Some one) = if bytes_eq item one.0 then one.1 else 0
 
 abbrev pub adds_of : List ℕ → Letter → ℕ
 adds_of item l = share item (adds l)
+
+-- the letter adds at least one of an item
+abbrev pub AddsSome : Letter → Type 0
+AddsSome l = IsSomeAnd (adds l) (λ one. 0 < one.1)
 
 -- what the letter adds, if anything, is at least one
 abbrev pub AddsNoZero : Letter → Type 0

@@ -46,8 +46,17 @@ fn destination(next: u32, ranks: u32) -> u32
 }
 
 impl Barrier {
-    /// Puts the Count of the next round, where the rank knows each round before, is idle, and may count one more. It
-    /// returns rank 0 where the link to it was full.
+    /// Whether the Count of the next round is due: the rank knows each round before, may count one more, and is idle.
+    fn has_count_due<H: Handler>(&self, comm: &Comm<H>) -> bool
+        ensures known { result ≡ true → self.now.counted ≤ self.now.known }
+        ensures more { result ≡ true → self.now.counted < self.now.rounds }
+        ensures idle { result ≡ true → IsIdle comm.now }
+        ensures none { result ≡ false → IsIdle comm.now → self.now.counted < self.now.rounds → self.now.known < self.now.counted }
+    {
+        self.counted <= self.known && self.counted < self.rounds && comm.is_idle()
+    }
+
+    /// Puts the Count of the next round, where it is due. It returns rank 0 where the link to it was full.
     pub(crate) fn put_count<H: Handler, P: Post>(
         &mut self,
         comm: &Comm<H>,
@@ -62,7 +71,7 @@ impl Barrier {
         ensures put { result ≡ Ok None → IsIdle comm.now → self.new.counted < self.new.rounds → self.new.known < self.new.counted }
         ensures no_memory { IfErr result (λ fault. fault ≡ NoMemory) }
     {
-        if self.counted > self.known || self.counted >= self.rounds || !comm.is_idle() {
+        if !self.has_count_due(comm) {
             return Ok(None);
         }
         let count = Control::Count {

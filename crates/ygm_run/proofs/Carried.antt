@@ -1,5 +1,4 @@
 pub mod AllCounted
 pub mod Calls
 pub mod LettersFrom
-pub mod LettersOf
 pub mod Preserved

@@ -7,6 +7,7 @@ pub mod JobEnds
 pub mod Lines
 pub mod Notes
 pub mod Refusals
+pub mod TallyRun
 pub mod TallyText
 pub mod Turns
 pub mod Verdict

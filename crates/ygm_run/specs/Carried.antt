@@ -1,7 +1,6 @@
 -- Only private functions cite this: the lines of each rank on their way to the ranks that own them.
-use Rattle.std.specs.Prelude.{◌≡◌, ℕ, ◌+◌, ◌<◌, ◌≤◌, ◌==◌, false, List, [], ◌∷◌, ◌++◌, Some, length, map, filter, flat_map, slice_get, slice_index, if◌then◌else◌}
+use Rattle.std.specs.Prelude.{◌≡◌, ℕ, ◌+◌, ◌<◌, ◌≤◌, ◌==◌, false, List, [], ◌∷◌, ◌++◌, Some, length, map, flat_map, slice_get, slice_index, if◌then◌else◌}
 use Rattle.std.specs.List.{AllByRecursion}
-use Rattle.msg_codec.specs.declared.letter.Letter.{Letter}
 use Rattle.ygm_route.specs.declared.scheme.Scheme.TheVariants.{Direct}
 use Rattle.ygm_route.specs.Layout.{Shape}
 use Rattle.world_core.specs.Limits.{most_letters}
@@ -9,13 +8,9 @@ use Rattle.world_core.specs.Plain.{Plain, is_stopped}
 use Rattle.world_core.specs.World.{log_of}
 use Rattle.comm_rank.specs.Rank.{Rank, fresh_rank, ran_from, sent_to}
 use Rattle.comm_rank.specs.Settled.{AreRanks}
-use Rattle.counting_set.specs.Counting.{Counts, counting_apply, add_letter}
-use Rattle.counting_set.specs.Owner.{owner_of_key}
+use Rattle.counting_set.specs.Counting.{Counts, counting_apply}
 use Rattle.ygm_run.specs.Limits.{max_line}
-
--- the letters of a rank's lines to another rank: one for each line that the other owns, in order
-abbrev pub letters_of : ℕ → ℕ → ℕ → List (List ℕ) → List Letter
-letters_of ranks from to lines = map (add_letter to from) (filter (λ line. owner_of_key line ranks == to) lines)
+use Rattle.ygm_run.specs.TallyRun.{own_letters}
 
 -- how many letters each rank has sent
 abbrev pub sent_counts : List (Rank Counts) → List ℕ
@@ -37,7 +32,7 @@ AreFresh layout comms = (rank : ℕ) (me : Rank Counts) → slice_get comms rank
 pub record Carried (own : ℕ → List (List ℕ)) (ranks : ℕ) (comms : List (Rank Counts)) (links : Plain) : Type 0 where
   pub all : length comms ≡ ranks
   pub counted : (rank : ℕ) (me : Rank Counts) → slice_get comms rank ≡ Some me → me.sent_count ≡ length (own rank)
-  pub sent : (from to : ℕ) (me : Rank Counts) → to < ranks → slice_get comms from ≡ Some me → sent_to me (log_of links.world from) to ≡ letters_of ranks from to (own from)
+  pub sent : (from to : ℕ) (me : Rank Counts) → to < ranks → slice_get comms from ≡ Some me → sent_to me (log_of links.world from) to ≡ own_letters ranks from (own from) to
   pub short : (rank : ℕ) → AllByRecursion (λ line. length line ≤ max_line) (own rank)
   pub few : (rank : ℕ) → length (own rank) ≤ most_letters
 

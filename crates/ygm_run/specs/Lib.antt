@@ -11,6 +11,7 @@ pub mod Lines
 pub mod Notes
 pub mod Reading
 pub mod Refusals
+pub mod TallyRun
 pub mod TallyText
 pub mod Turns
 pub mod Verdict

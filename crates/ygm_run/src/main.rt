@@ -14,6 +14,7 @@ mod pieces;
 mod running;
 pub mod status;
 mod tally;
+pub mod tally_laws;
 pub mod tally_text;
 #[cfg(test)]
 mod tests;

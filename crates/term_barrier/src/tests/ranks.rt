@@ -171,7 +171,12 @@ impl<H: Handler> Model for Ranks<H> {
 }
 
 // The ranks of a world of so many, links that hold so many batches, and limits.
-pub(super) fn ranks_of(alloc: Global, ranks: u32, ring: u32, limits: Limits) -> Result<Ranks<Relay>, Fail>
+pub(super) fn ranks_of(
+    alloc: Global,
+    ranks: u32,
+    ring: u32,
+    limits: Limits,
+) -> Result<Ranks<Relay>, Fail>
     requires ring { 1 ≤ ring }
 {
     let layout = Layout::new(ranks, 1)?;

@@ -48,19 +48,19 @@ impl Relay {
 }
 
 impl Handler for Relay {
-    ghost use Rattle.std.specs.Prelude.{ℕ, [], ◌∷◌, ◌++◌, ◌+◌, ◌-◌, ◌&&◌, ◌==◌, nat_lt, if◌then◌else◌, slice_index_or, refl};
+    ghost use Rattle.std.specs.Prelude.{ℕ, [], ◌∷◌, ◌++◌, ◌+◌, ◌-◌, ◌&&◌, ◌==◌, nat_lt, if◌then◌else◌};
+    ghost use Rattle.std.specs.Prelude.{refl, slice_index_or};
 
     ghost apply = { λ contents here ranks l.
-      let first : ℕ = slice_index_or l.body 0 0 in
-      let next : ℕ = if nat_lt (here + 1) ranks then here + 1 else 0 in
-      (
-        contents ++ first ∷ [],
-        if (l.tag == 1) && (nat_lt l.from ranks)
-        then record { to = l.from; tag = 0; body = l.body } ∷ record { to = l.from; tag = 0; body = [] } ∷ []
-        else if (l.tag == 2) && (nat_lt 0 first && nat_lt next ranks)
-        then record { to = next; tag = 2; body = (first - 1) ∷ [] } ∷ []
-        else [],
-      ) };
+        let first : ℕ = slice_index_or l.body 0 0 in
+        let next : ℕ = if nat_lt (here + 1) ranks then here + 1 else 0 in (
+          contents ++ first ∷ [],
+          if (l.tag == 1) && (nat_lt l.from ranks)
+              then record { to = l.from; tag = 0; body = l.body } ∷ record { to = l.from; tag = 0; body = [] } ∷ []
+              else if (l.tag == 2) && (nat_lt 0 first && nat_lt next ranks)
+              then record { to = next; tag = 2; body = (first - 1) ∷ [] } ∷ []
+              else [],
+        ) };
 
     ghost start = { λ _. [] };
 

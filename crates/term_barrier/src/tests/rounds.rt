@@ -21,7 +21,12 @@ fn a_rank_alone_leaves_its_barriers_at_rounds_1_and_3(rt: HostRuntime) -> Result
 }
 
 // Two ranks leave a barrier at the same round.
-fn both_leave(rt: &impl Abort, ranks: &mut Ranks<Relay>, barrier: u64, round: u64) -> Result<(), Fail> {
+fn both_leave(
+    rt: &impl Abort,
+    ranks: &mut Ranks<Relay>,
+    barrier: u64,
+    round: u64,
+) -> Result<(), Fail> {
     let left = ranks.leave_all()?;
     same(
         rt,

@@ -46,15 +46,32 @@ fn a_rank_that_counted_all_its_rounds_waits_for_ever(rt: HostRuntime) -> Result<
     one_round(&rt, &mut ranks_of(rt.alloc(), 1, 4, ONE_ROUND)?)
 }
 
-// Rank 1 counts once both of its letters are put, and once there is room for the Count.
+// Rank 1 counts once both of its letters are put, though the link to rank 0 has room all along.
+fn held_letters(rt: &impl Abort, ranks: &mut Ranks<Relay>) -> Result<(), Fail> {
+    ranks.send(1, 2, NOTE, b"ab")?;
+    ranks.enter_all()?;
+    waits(rt, ranks, 1, Waiting::Link { to: 2 })?;
+    waits(rt, ranks, 1, Waiting::Link { to: 2 })?;
+    same(rt, ranks.counts(1)?, 0);
+    waits(rt, ranks, 2, Waiting::Worked { took: 1 })?;
+    waits(rt, ranks, 1, Waiting::Total { round: 0 })?;
+    same(rt, ranks.counts(1)?, 1);
+    Ok(())
+}
+
+#[test]
+fn a_rank_counts_only_once_it_holds_no_letter(rt: HostRuntime) -> Result<(), Fail> {
+    held_letters(&rt, &mut ranks_of(rt.alloc(), 3, 1, Limits::FULL)?)
+}
+
+// Rank 1 puts two letters and its Count into a link that has room for one batch.
 fn through_a_narrow_link(rt: &impl Abort, ranks: &mut Ranks<Relay>) -> Result<(), Fail> {
     ranks.send(1, 0, NOTE, b"ab")?;
     ranks.enter_all()?;
     waits(rt, ranks, 1, Waiting::Link { to: 0 })?;
-    waits(rt, ranks, 1, Waiting::Link { to: 0 })?;
     waits(rt, ranks, 0, Waiting::Worked { took: 1 })?;
     waits(rt, ranks, 1, Waiting::Link { to: 0 })?;
-    same(rt, (ranks.counts(0)?, ranks.counts(1)?), (1, 0));
+    same(rt, ranks.counts(1)?, 0);
     waits(rt, ranks, 0, Waiting::Worked { took: 2 })?;
     waits(rt, ranks, 1, Waiting::Total { round: 0 })?;
     same(rt, (ranks.counts(1)?, ranks.sums(1)?), (1, (2, 0)));
@@ -62,7 +79,7 @@ fn through_a_narrow_link(rt: &impl Abort, ranks: &mut Ranks<Relay>) -> Result<()
 }
 
 #[test]
-fn a_rank_counts_only_once_it_holds_no_letter(rt: HostRuntime) -> Result<(), Fail> {
+fn a_count_waits_for_room_in_its_link(rt: HostRuntime) -> Result<(), Fail> {
     through_a_narrow_link(&rt, &mut ranks_of(rt.alloc(), 2, 1, Limits::FULL)?)
 }
 

@@ -27,8 +27,9 @@ use Rattle.comm_rank.proofs.Settled.Stops.{same_stopped}
 use Rattle.counting_set.specs.Counting.{Counts, counting_apply, add_letter}
 use Rattle.counting_set.specs.Owner.{owner_of_key}
 use Rattle.counting_set.proofs.Counts.After.{handed-none}
-use Rattle.ygm_run.specs.Carried.{AreFresh, AreReady, Carried, IsQuietFrom, letters_of, sent_counts, with_line}
+use Rattle.ygm_run.specs.Carried.{AreFresh, AreReady, Carried, IsQuietFrom, sent_counts, with_line}
 use Rattle.ygm_run.specs.Limits.{max_line}
+use Rattle.ygm_run.specs.TallyRun.{own_letters}
 
 -- ---- the start
 
@@ -81,15 +82,15 @@ fresh_more layout comms me fresh last rank found e = elim (cases_lt rank (length
 
 -- ---- one line more
 
-letters_of-append : (n from to : ℕ) (xs ys : List (List ℕ)) → letters_of n from to (xs ++ ys) ≡ letters_of n from to xs ++ letters_of n from to ys
-letters_of-append n from to xs ys =
+own_letters-append : (n from to : ℕ) (xs ys : List (List ℕ)) → own_letters n from (xs ++ ys) to ≡ own_letters n from xs to ++ own_letters n from ys to
+own_letters-append n from to xs ys =
     ap (map (add_letter to from)) (filter-append (λ line. eqb (owner_of_key line n) to) xs ys)
     ∙ map-append (add_letter to from) (filter (λ line. eqb (owner_of_key line n) to) xs) (filter (λ line. eqb (owner_of_key line n) to) ys)
 
-own_line : (n from to : ℕ) (line : List ℕ) → owner_of_key line n ≡ to → letters_of n from to (line ∷ []) ≡ add_letter to from line ∷ []
+own_line : (n from to : ℕ) (line : List ℕ) → owner_of_key line n ≡ to → own_letters n from (line ∷ []) to ≡ add_letter to from line ∷ []
 own_line n from to line e = ap (λ b. map (add_letter to from) (cond b (line ∷ []) [])) (eq-eqb (owner_of_key line n) to e)
 
-other_line : (n from to : ℕ) (line : List ℕ) → owner_of_key line n ≢ to → letters_of n from to (line ∷ []) ≡ []
+other_line : (n from to : ℕ) (line : List ℕ) → owner_of_key line n ≢ to → own_letters n from (line ∷ []) to ≡ []
 other_line n from to line ne = ap (λ b. map (add_letter to from) (cond b (line ∷ []) [])) (ne_eqb (owner_of_key line n) to ne)
 
 pub with_line-same : (own : ℕ → List (List ℕ)) (rank other : ℕ) (line : List ℕ) → other ≡ rank → with_line own rank line other ≡ own other ++ line ∷ []
@@ -110,18 +111,18 @@ pub record SentLine (n s : ℕ) (line : List ℕ) (me now : Rank Counts) : Type 
 
 module _ (own : ℕ → List (List ℕ)) (n s : ℕ) (comms : List (Rank Counts)) (links : Plain) (line : List ℕ) (me now : Rank Counts) (c : Carried own n comms links) (at : slice_get comms s ≡ Some me) (one : SentLine n s line me now) where
   -- the letters to a rank, of the sender's lines and one more
-  letters_more : (to : ℕ) → to < n → sent_to now (log_of links.world s) to ≡ letters_of n s to (own s ++ line ∷ [])
+  letters_more : (to : ℕ) → to < n → sent_to now (log_of links.world s) to ≡ own_letters n s (own s ++ line ∷ []) to
   letters_more to t =
-      let before : sent_to me (log_of links.world s) to ≡ letters_of n s to (own s) = c.sent s to me t at in
+      let before : sent_to me (log_of links.world s) to ≡ own_letters n s (own s) to = c.sent s to me t at in
       elim (cases_eq (owner_of_key line n) to) [
         | inl e ↦
             let sent : sent_to now (log_of links.world s) to ≡ sent_to me (log_of links.world s) to ++ add_letter to s line ∷ [] =
             subst (λ d. sent_to now (log_of links.world s) d ≡ sent_to me (log_of links.world s) d ++ add_letter d s line ∷ []) e (one.to_owner (log_of links.world s)) in
             sent ∙ ap (λ w. w ++ add_letter to s line ∷ []) before
-            ∙ ap (λ w. letters_of n s to (own s) ++ w) (sym (own_line n s to line e)) ∙ sym (letters_of-append n s to (own s) (line ∷ []))
+            ∙ ap (λ w. own_letters n s (own s) to ++ w) (sym (own_line n s to line e)) ∙ sym (own_letters-append n s to (own s) (line ∷ []))
         | inr ne ↦
-            one.to_others (log_of links.world s) to (λ e. ne (sym e)) ∙ before ∙ sym (append-nil (letters_of n s to (own s)))
-            ∙ ap (λ w. letters_of n s to (own s) ++ w) (sym (other_line n s to line ne)) ∙ sym (letters_of-append n s to (own s) (line ∷ []))
+            one.to_others (log_of links.world s) to (λ e. ne (sym e)) ∙ before ∙ sym (append-nil (own_letters n s (own s) to))
+            ∙ ap (λ w. own_letters n s (own s) to ++ w) (sym (other_line n s to line ne)) ∙ sym (own_letters-append n s to (own s) (line ∷ []))
       ]
 
   -- a rank sent one line more
@@ -138,9 +139,9 @@ module _ (own : ℕ → List (List ℕ)) (n s : ℕ) (comms : List (Rank Counts)
     sent = λ r to m t e. elim (cases_eq r s) [
       | inl x ↦
           let is : now ≡ m = item_placed comms s r m now x e in
-          let here : sent_to m (log_of links.world s) to ≡ letters_of n s to (own s ++ line ∷ []) = subst (λ (i : Rank Counts). sent_to i (log_of links.world s) to ≡ letters_of n s to (own s ++ line ∷ [])) is (letters_more to t) in
-          subst (λ i. sent_to m (log_of links.world i) to ≡ letters_of n i to (with_line own s line i)) (sym x) (here ∙ ap (letters_of n s to) (sym (with_line-same own s s line refl)))
-      | inr x ↦ c.sent r to m t (sym (item_kept comms s r now x) ∙ e) ∙ ap (letters_of n r to) (sym (with_line-other own s r line x))
+          let here : sent_to m (log_of links.world s) to ≡ own_letters n s (own s ++ line ∷ []) to = subst (λ (i : Rank Counts). sent_to i (log_of links.world s) to ≡ own_letters n s (own s ++ line ∷ []) to) is (letters_more to t) in
+          subst (λ i. sent_to m (log_of links.world i) to ≡ own_letters n i (with_line own s line i) to) (sym x) (here ∙ ap (λ lines. own_letters n s lines to) (sym (with_line-same own s s line refl)))
+      | inr x ↦ c.sent r to m t (sym (item_kept comms s r now x) ∙ e) ∙ ap (λ lines. own_letters n r lines to) (sym (with_line-other own s r line x))
     ];
     short = λ r. elim (cases_eq r s) [
       | inl x ↦ subst (AllByRecursion (λ l. length l ≤ max_line)) (sym (with_line-same own s r line x)) (All-more (λ l. length l ≤ max_line) (own r) line (c.short r) fits)

@@ -7,11 +7,12 @@ use Rattle.ygm_io.specs.Content.{ExposedBytes}
 use Rattle.world_core.specs.Plain.{Plain}
 use Rattle.comm_rank.specs.Rank.{Rank}
 use Rattle.counting_set.specs.Counting.{Counts}
-use Rattle.ygm_run.specs.Carried.{Carried, letters_of, with_line}
+use Rattle.ygm_run.specs.Carried.{Carried, with_line}
 use Rattle.ygm_run.specs.Fed.{Fed, with_lines}
 use Rattle.ygm_run.specs.Limits.{max_line}
 use Rattle.ygm_run.specs.Lines.{text_of}
 use Rattle.ygm_run.specs.Reading.{Reading}
+use Rattle.ygm_run.specs.TallyRun.{own_letters}
 use Rattle.ygm_run.specs.Turns.{to_come, RawLineTaken}
 use Rattle.ygm_run.proofs.Fed.LinesTaken.{line_cut, lines_more, lines_none}
 
@@ -20,7 +21,7 @@ pub same_own : (own other : ℕ → List (List ℕ)) (n : ℕ) (comms : List (Ra
 same_own own other n comms links same c = record {
   all = c.all;
   counted = λ r me e. c.counted r me e ∙ ap length (same r);
-  sent = λ from to me t e. c.sent from to me t e ∙ ap (letters_of n from to) (same from);
+  sent = λ from to me t e. c.sent from to me t e ∙ ap (λ lines. own_letters n from lines to) (same from);
   short = λ r. subst (AllByRecursion (λ line. length line ≤ max_line)) (same r) (c.short r);
   few = λ r. omega (arith, c.few r, ap length (same r));
 }

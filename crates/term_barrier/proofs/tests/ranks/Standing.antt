@@ -1,41 +1,39 @@
 -- Ranks that stand at a post with their barriers: new ones, one that took a turn, and all others.
-use Rattle.std.proofs.Common.{◌≡◌, ◌≢◌, ℕ, ◌<◌, true, false, Some, Result, Ok, Err, List, [], length, get_or, set, slice_get, sym, ap, ◌∙◌, subst, inl, inr, arith}
-use Rattle.std.proofs.lemmas.Bool.{cases_eq, false≢true}
+use Rattle.std.proofs.Common.{◌≡◌, ◌≢◌, ℕ, ◌<◌, false, Some, List, [], length, get_or, set, slice_get, sym, ap, ◌∙◌, subst, inl, inr, arith}
+use Rattle.std.proofs.lemmas.Bool.{cases_eq}
 use Rattle.std.proofs.lemmas.List.{get_or-replicate}
 use Rattle.std.proofs.lemmas.Option.{slice_get-get_or, slice_get_within}
-use Rattle.std.specs.Prelude.{is_err}
-use Rattle.std.specs.Result.{IfOk}
 use Rattle.list_facts.proofs.Places.{item_kept, item_set, same_item}
 use Rattle.ygm_route.specs.declared.scheme.Scheme.TheVariants.{Direct}
 use Rattle.ygm_route.specs.Layout.{Shape}
 use Rattle.world_core.specs.Plain.{fresh_links, state_of}
 use Rattle.world_core.specs.Post.{PostState, SamePost}
 use Rattle.world_core.specs.World.{log_of}
-use Rattle.comm_rank.specs.declared.fault.CommFault.{CommFault}
 use Rattle.comm_rank.specs.declared.turn.Turn.{Turn}
 use Rattle.comm_rank.specs.Agrees.{MayTurn}
 use Rattle.comm_rank.specs.Fold.{Applies}
-use Rattle.comm_rank.specs.Rank.{IsSameRank, Rank, Worked, fresh_rank, local_of}
+use Rattle.comm_rank.specs.Rank.{IsSameRank, Rank, fresh_rank, local_of}
 use Rattle.comm_rank.specs.Turns.{HasEnded}
 use Rattle.comm_rank.proofs.Settled.AreRanks.{belongs_new, may_turn_data}
-use Rattle.term_barrier.specs.declared.polled.Polled.{Polled}
 use Rattle.term_barrier.specs.declared.tests.ranks.Member.{Member}
 use Rattle.term_barrier.specs.Barriers.{BarrierAgrees, BarrierState, fresh_barrier}
-use Rattle.term_barrier.specs.Polls.{PollEnded, Stands}
+use Rattle.term_barrier.specs.Polls.{Stands}
 use Rattle.term_barrier.proofs.Barriers.Agrees.{agrees_fresh, agrees_turned}
 use Rattle.term_barrier.proofs.Polls.Stands.{stands_unchanged}
 
 module _ {C : Type 0} (apply : Applies C) (start : C → C) where
   -- a new rank, at new links
   pub stands_new : (layout : Shape) (here most rounds ring batches : ℕ) (contents : C) → start contents ≡ contents → here < layout.ranks →
-      Stands apply start (fresh_barrier layout here rounds) (fresh_rank layout Direct here most contents) (state_of (fresh_links layout Direct ring batches))
+      Stands apply start (fresh_barrier layout here rounds) (fresh_rank layout Direct here most contents)
+      (state_of (fresh_links layout Direct ring batches))
   stands_new layout here most rounds ring batches contents fresh within =
       let me : Rank C = fresh_rank layout Direct here most contents in
+      let barrier : BarrierState = fresh_barrier layout here rounds in
       let none : log_of (fresh_links layout Direct ring batches).world here ≡ [] = get_or-replicate layout.ranks here [] [] within in
       record {
         belongs = belongs_new apply start layout most ring batches contents fresh here within;
         may_turn = subst (λ log. MayTurn me log) (sym none) (may_turn_data me [] tt);
-        agrees = subst (λ log. BarrierAgrees (fresh_barrier layout here rounds) [] (local_of me log)) (sym none) (agrees_fresh layout Direct here rounds);
+        agrees = subst (λ log. BarrierAgrees barrier [] (local_of me log)) (sym none) (agrees_fresh layout Direct here rounds);
       }
 
   module _ (barrier : BarrierState) (me : Rank C) (post : PostState) (stands : Stands apply start barrier me post) where
@@ -60,11 +58,14 @@ module _ {C : Type 0} (apply : Applies C) (start : C → C) where
       (member.comm.here ≡ rank) × (member.comm.stopped ≡ false → Stands apply start member.barrier member.comm post)
 
   -- the member at a place
-  pub at_place : (members : List (Member C)) (post : PostState) (rank : ℕ) (me : Member C) → rank < length members → AllStand members post → me ≡ get_or members rank me →
+  pub at_place : (members : List (Member C)) (post : PostState) (rank : ℕ) (me : Member C) → rank < length members →
+      AllStand members post → me ≡ get_or members rank me →
       (me.comm.here ≡ rank) × (me.comm.stopped ≡ false → Stands apply start me.barrier me.comm post)
   at_place members post rank me within all is = all rank me (slice_get-get_or members rank me within ∙ ap Some (sym is))
 
-  pub all_set : (members : List (Member C)) (old new : PostState) (rank : ℕ) (now : Member C) → rank < length members → AllStand members old → now.comm.here ≡ rank →
+  -- one of them changed
+  pub all_set : (members : List (Member C)) (old new : PostState) (rank : ℕ) (now : Member C) → rank < length members →
+      AllStand members old → now.comm.here ≡ rank →
       (now.comm.stopped ≡ false → Stands apply start now.barrier now.comm new) → SamePost rank old new → AllStand (set members rank now) new
   all_set members old new rank now within all here stands same other a e = elim (cases_eq other rank) [
     | inl is ↦
@@ -77,7 +78,17 @@ module _ {C : Type 0} (apply : Applies C) (start : C → C) where
         (at.0, λ going. stands_still a.barrier a.comm old (at.1 going) rank new (λ here. ne (sym at.0 ∙ here)) same)
   ]
 
-  pub all_new : (layout : Shape) (most rounds ring batches : ℕ) (contents : C) (members : List (Member C)) → start contents ≡ contents → length members ≡ layout.ranks →
+  -- one of them took a turn
+  pub all_turned : (members : List (Member C)) (old new : PostState) (rank : ℕ) (me now : Member C) → rank < length members →
+      AllStand members old → me ≡ get_or members rank me → now.comm.here ≡ me.comm.here →
+      (now.comm.stopped ≡ false → Stands apply start now.barrier now.comm new) → SamePost me.comm.here old new → AllStand (set members rank now) new
+  all_turned members old new rank me now within all is here stands same =
+      let at = at_place members old rank me within all is in
+      all_set members old new rank now within all (here ∙ at.0) stands (subst (λ r. SamePost r old new) at.0 same)
+
+  -- new ones, at new links
+  pub all_new : (layout : Shape) (most rounds ring batches : ℕ) (contents : C) (members : List (Member C)) →
+      start contents ≡ contents → length members ≡ layout.ranks →
       ((rank : ℕ) (member : Member C) → slice_get members rank ≡ Some member →
       (member.comm ≡ fresh_rank layout Direct rank most contents) × (member.barrier ≡ fresh_barrier layout rank rounds)) →
       AllStand members (state_of (fresh_links layout Direct ring batches))
@@ -91,11 +102,3 @@ module _ {C : Type 0} (apply : Applies C) (start : C → C) where
             subst (λ me. Stands apply start member.barrier me links) (sym is.0)
             (subst (λ barrier. Stands apply start barrier (fresh_rank layout Direct rank most contents) links) (sym is.1) stands),
       )
-
-  -- a poll ended, or its rank is stopped
-  pub stands_polled : (old left : BarrierState) (one me : Rank C) (before after : PostState) (result : Result Polled CommFault) →
-      IfOk result (PollEnded apply start old left one me before after) → Worked (record one { stopped = is_err result }) me →
-      me.stopped ≡ false → Stands apply start left me after
-  stands_polled old left one me before after (Ok answer) ended worked going = ended.stands
-  stands_polled old left one me before after (Err fault) ended worked going =
-      absurd (let stopped : me.stopped ≡ true = ap (λ (rank : Rank C). rank.stopped) worked in false≢true (sym going ∙ stopped))

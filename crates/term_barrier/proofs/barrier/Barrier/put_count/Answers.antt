@@ -1,4 +1,4 @@
-use Rattle.std.proofs.Common.{Bool, [], ◌∷◌, ap, ◌∙◌, sym, subst, arith}
+use Rattle.std.proofs.Common.{◌≤◌, Bool, [], ◌∷◌, ap, ◌∙◌, sym, subst, arith}
 use Rattle.msg_codec.specs.Control.{letter_of_control}
 use Rattle.msg_codec.specs.declared.control.Control.TheVariants.{Count}
 use Rattle.world_core.specs.Post.{PutDone, PutFoundFull}
@@ -16,8 +16,9 @@ put_letter-requires-clause-honest g c =
     let stands : Stands g.H.Handler.apply g.H.Handler.start barrier c.args.comm.now post =
     subst (λ (b : BarrierState). Stands g.H.Handler.apply g.H.Handler.start b c.args.comm.now post) (sym c.self.view_is) c.requires.stands in
     count_unbroken g.H.Handler.apply g.H.Handler.start barrier c.args.comm.now post stands c.self.invariant c.requires.all_handed
-    c.sent_count.result c.run_count.result c.sent_count.ensures.value c.run_count.ensures (c.is_idle.ensures.idle c.if-not-is_idle.false)
-    (omega arith) (omega arith, record { round_fits = omega arith; sent_fits = omega arith; run_fits = omega arith })
+    c.sent_count.result c.run_count.result c.sent_count.ensures.value c.run_count.ensures (c.has_count_due.ensures.idle c.if-not-has_count_due.false)
+    (subst (λ (b : BarrierState). b.counted ≤ b.known) (sym c.self.view_is) (c.has_count_due.ensures.known c.if-not-has_count_due.false))
+    (omega arith, record { round_fits = omega arith; sent_fits = omega arith; run_fits = omega arith })
 
 pub returns-in_err-put_letter-clause-controls : goal.returns-in_err-put_letter-clause-controls
 returns-in_err-put_letter-clause-controls g c =
@@ -51,8 +52,9 @@ returns-clause-controls g c =
     subst (λ (b : Bool). PutsLetter b c.self.inside.here 0 l old new) c.if-not-branch.false c.in_ok-put_letter.ensures.put in
     subst (λ (b : BarrierState). HasPutControls (held_letters c.args.comm.now) b (with_count_put barrier) old new) c.self.view_is
     (count_controls g.H.Handler.apply g.H.Handler.start barrier c.args.comm.now old stands c.self.invariant c.requires.all_handed
-    c.sent_count.result c.run_count.result c.sent_count.ensures.value c.run_count.ensures (c.is_idle.ensures.idle c.if-not-is_idle.false)
-    (omega arith) (omega arith, record { round_fits = omega arith; sent_fits = omega arith; run_fits = omega arith })
+    c.sent_count.result c.run_count.result c.sent_count.ensures.value c.run_count.ensures (c.has_count_due.ensures.idle c.if-not-has_count_due.false)
+    (subst (λ (b : BarrierState). b.counted ≤ b.known) (sym c.self.view_is) (c.has_count_due.ensures.known c.if-not-has_count_due.false))
+    (omega arith, record { round_fits = omega arith; sent_fits = omega arith; run_fits = omega arith })
     new done c.in_ok-put_letter.ensures.keeps)
 
 pub returns-clause-stands : goal.returns-clause-stands
@@ -66,6 +68,7 @@ returns-clause-stands g c =
     let done : PutDone c.self.inside.here 0 (l ∷ []) old new =
     subst (λ (b : Bool). PutsLetter b c.self.inside.here 0 l old new) c.if-not-branch.false c.in_ok-put_letter.ensures.put in
     count_stands g.H.Handler.apply g.H.Handler.start barrier c.args.comm.now old stands c.self.invariant c.requires.all_handed
-    c.sent_count.result c.run_count.result c.sent_count.ensures.value c.run_count.ensures (c.is_idle.ensures.idle c.if-not-is_idle.false)
-    (omega arith) (omega arith, record { round_fits = omega arith; sent_fits = omega arith; run_fits = omega arith })
+    c.sent_count.result c.run_count.result c.sent_count.ensures.value c.run_count.ensures (c.has_count_due.ensures.idle c.if-not-has_count_due.false)
+    (subst (λ (b : BarrierState). b.counted ≤ b.known) (sym c.self.view_is) (c.has_count_due.ensures.known c.if-not-has_count_due.false))
+    (omega arith, record { round_fits = omega arith; sent_fits = omega arith; run_fits = omega arith })
     new done c.in_ok-put_letter.ensures.keeps (ap (λ (b : BarrierState). b.inside) c.self.view_is ∙ c.requires.inside)

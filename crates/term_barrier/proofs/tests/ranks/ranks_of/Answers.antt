@@ -14,13 +14,16 @@ loop-here-preserved c =
     let new = c.in_ok-member_of.field-0 in
     let layout = c.in_ok-layout.layout in
     let limits = c.args.limits in
-    let P : ℕ → Member (List ℕ) → Type 0 = λ rank member. (member.comm ≡ fresh_rank layout Direct rank limits.letters []) × (member.barrier ≡ fresh_barrier layout rank limits.rounds) in
-    let Each : List (Member (List ℕ)) → Type 0 = λ members. (rank : ℕ) (member : Member (List ℕ)) → slice_get members rank ≡ Some member → P rank member in
+    let P : ℕ → Member (List ℕ) → Type 0 = λ rank member.
+    (member.comm ≡ fresh_rank layout Direct rank limits.letters []) × (member.barrier ≡ fresh_barrier layout rank limits.rounds) in
+    let Each : List (Member (List ℕ)) → Type 0 = λ members.
+    (rank : ℕ) (member : Member (List ℕ)) → slice_get members rank ≡ Some member → P rank member in
     let items : c.push.new.self.items ≡ before ++ new ∷ [] = search rules in
     let made : P c.loop-here.here new = (c.in_ok-member_of.ensures.rank, c.in_ok-member_of.ensures.barrier) in
+    let last = subst (λ rank. P rank new) (sym c.loop-here.invariant.all) made in
     record {
       all = search rules;
-      each = subst Each (sym items) (pushed P before new c.loop-here.invariant.each (subst (λ rank. P rank new) (sym c.loop-here.invariant.all) made));
+      each = subst Each (sym items) (pushed P before new c.loop-here.invariant.each last);
     }
 
 pub invariant_of-result : goal.invariant_of-result
@@ -29,5 +32,7 @@ invariant_of-result c =
     let limits = c.args.limits in
     let members = c.loop-here.members.items in
     let all : length members ≡ layout.ranks = search rules in
-    let links : c.in_ok-links-2.links.value ≡ fresh_links layout Direct c.args.ring limits.batches = c.in_ok-links-2.ensures ∙ c.in_ok-links.ensures in
-    rw links (refl, all, all_new _ _ layout limits.letters limits.rounds c.args.ring limits.batches [] members refl all c.loop-here.invariant.each)
+    let ring = c.args.ring in
+    let links : c.in_ok-links-2.links.value ≡ fresh_links layout Direct ring limits.batches =
+    c.in_ok-links-2.ensures ∙ c.in_ok-links.ensures in
+    rw links (refl, all, all_new _ _ layout limits.letters limits.rounds ring limits.batches [] members refl all c.loop-here.invariant.each)

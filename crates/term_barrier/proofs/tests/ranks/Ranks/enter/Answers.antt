@@ -1,7 +1,7 @@
 use Rattle.std.proofs.Common.{◌<◌, ◌∙◌, length, length-set, rules}
 use Rattle.world_core.specs.Plain.{state_of}
 use Rattle.comm_rank.proofs.Rank.Same.{same_none}
-use Rattle.term_barrier.proofs.tests.ranks.Standing.{all_set, at_place}
+use Rattle.term_barrier.proofs.tests.ranks.Standing.{all_turned, at_place}
 use Rattle.term_barrier.proofs.tests.ranks.Ranks.enter.Goals as goal
 
 pub invariant_of-self : goal.invariant_of-self
@@ -11,11 +11,14 @@ invariant_of-self g c =
     let members = c.self.inside.members.items in
     let post = state_of c.self.inside.links.value in
     let rank = c.args.rank in
+    let me = c.index_mut.result.now in
     let now = c.enter.new.self in
+    let e = c.enter.ensures in
     let within : rank < length members = search rules in
     let all = c.self.invariant.2 in
-    let at = at_place apply start members post rank c.index_mut.result.now within all c.index_mut.ensures.value in (
+    let is = c.index_mut.ensures.value in
+    let stands = e.stands post (at_place apply start members post rank me within all is).1 in (
       c.self.invariant.0,
       length-set members rank now ∙ c.self.invariant.1,
-      all_set apply start members post post rank now within all (c.enter.ensures.here ∙ at.0) (c.enter.ensures.stands post at.1) (same_none rank post),
+      all_turned apply start members post post rank me now within all is e.here stands (same_none me.comm.here post),
     )

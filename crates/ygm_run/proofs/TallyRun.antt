@@ -1,0 +1,4 @@
+pub mod AllLines
+pub mod OwnLetters
+pub mod Shards
+pub mod Tests
