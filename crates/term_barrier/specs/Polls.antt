@@ -1,5 +1,5 @@
 -- What a poll does to a rank and its log, and what it returns.
-use Rattle.std.specs.Prelude.{◌≡◌, ◌⊎◌, ℕ, pred, ◌+◌, ◌<◌, ◌≤◌, IsTrue, Bool, false, true, is_some, List, [], ◌∷◌, ◌++◌, Option, None, Some}
+use Rattle.std.specs.Prelude.{◌≡◌, ◌⊎◌, ℕ, pred, ◌+◌, ◌<◌, ◌≤◌, IsTrue, Bool, false, true, is_some, List, [], ◌∷◌, ◌++◌, Option, None, Some, ⊤}
 use Rattle.std.specs.List.{AllByRecursion}
 use Rattle.list_facts.specs.Prefix.{IsPrefix}
 use Rattle.msg_codec.specs.Control.{is_control}
@@ -18,13 +18,13 @@ use Rattle.comm_rank.specs.declared.turn.Turn.{Turn}
 use Rattle.comm_rank.specs.Agrees.{Belongs, MayTurn}
 use Rattle.comm_rank.specs.Fault.{IfStopped, UnlessStopped}
 use Rattle.comm_rank.specs.Fold.{Applies}
-use Rattle.comm_rank.specs.Rank.{IsSameRank, Rank, handed, held_letters, local_of, sent_to}
+use Rattle.comm_rank.specs.Rank.{IsIdle, IsSameRank, Rank, handed, held_letters, local_of, sent_to}
 use Rattle.comm_rank.specs.Turns.{Advanced, HasFailed, HasHalted, KeepsPost, LookedAt, PutsKeep, Turned}
 use Rattle.term_barrier.specs.declared.polled.Polled.{Polled}
 use Rattle.term_barrier.specs.declared.polled.Polled.TheVariants.{Left, Waiting as Waits}
 use Rattle.term_barrier.specs.declared.polled.Waiting.{Waiting}
 use Rattle.term_barrier.specs.declared.polled.Waiting.TheVariants.{Worked, Link, Count, Total, Spent}
-use Rattle.term_barrier.specs.Barriers.{BarrierAgrees, BarrierState, HasNoneToPut, IsMissing}
+use Rattle.term_barrier.specs.Barriers.{BarrierAgrees, BarrierState, HasNoneToPut, HasPutTotals, IsMissing}
 use Rattle.term_barrier.specs.Left.{HasLeft}
 
 -- a put of control letters alone
@@ -113,6 +113,22 @@ IsReason barrier me old new turn (Spent round) = IsStill turn old new × (round 
 abbrev pub IsAnswer : BarrierState → BarrierState → Local → PostState → PostState → Turn → Polled → Type 0
 IsAnswer barrier left me old new turn (Left number round) = PolledLeft barrier left me number round
 IsAnswer barrier left me old new turn (Waits why) = PolledWaiting barrier left × IsReason left me old new turn why
+
+-- a put found a link full
+pub record FoundSomeFull (old new : PostState) : Type 0 where
+  pub to : ℕ
+  pub full : FoundFull (Some to) old new
+
+-- No Count and no Total is due: the rank put its Count of the present round, where it is idle and may count one more, and
+-- rank 0 put the Totals of that round, where it has all its Counts.
+pub record HasNoneDue {C : Type 0} (barrier : BarrierState) (me : Rank C) : Type 0 where
+  pub count : IsIdle me → barrier.counted < barrier.rounds → barrier.known < barrier.counted
+  pub totals : barrier.known < barrier.counted → HasPutTotals barrier
+
+-- where it waits, none is due any more, unless a put found a link full
+abbrev pub LeavesNoneDue : {C : Type 0} → BarrierState → Rank C → PostState → PostState → Polled → Type 0
+LeavesNoneDue barrier me old new (Left number round) = ⊤
+LeavesNoneDue barrier me old new (Waits why) = FoundSomeFull old new ⊎ HasNoneDue barrier me
 
 -- ---- a barrier, its rank and their log
 

@@ -6,7 +6,7 @@ ghost use Rattle.comm_rank.specs.Fault.{IfStopped, UnlessStopped};
 ghost use Rattle.comm_rank.specs.Rank.{IsSameRank, Rank, Worked as RankWorked, local_of};
 ghost use Rattle.comm_rank.specs.Turns.{HasEnded, HasHalted, KeepsPost};
 ghost use Rattle.term_barrier.specs.declared.polled.Waiting.TheVariants.{Worked, Link};
-ghost use Rattle.term_barrier.specs.Polls.{AfterTurn, BarrierEnded, BarrierFailed, IsAnswer, IsOtherReason, IsSameBarrier, PollEnded, PollFailed, Stands, either};
+ghost use Rattle.term_barrier.specs.Polls.{AfterTurn, BarrierEnded, BarrierFailed, IsAnswer, IsOtherReason, IsSameBarrier, LeavesNoneDue, PollEnded, PollFailed, Stands, either};
 
 use crate::{Barrier, Polled, Waiting};
 use comm_rank::{Comm, CommFault, Handler, Turn};
@@ -18,7 +18,8 @@ impl Barrier {
     /// barrier, and if not, why.
     ///
     /// A rank puts its Count of a round once it knows the round before, holds no letter and none waits to run. Rank 0 puts
-    /// the Totals of a round once it has the Counts of all ranks.
+    /// the Totals of a round once it has the Counts of all ranks. Where it waits, no Count and no Total is due any more,
+    /// unless a put found a link full.
     ///
     /// It fails as `Comm::turn` does. Where it has no memory to put a Count or a Total, it returns `NoMemory` and the rank
     /// halts.
@@ -31,6 +32,7 @@ impl Barrier {
         requires stands { Stands H.apply H.start self.old comm.old (P.state post.old) }
         requires inside { self.old.inside ≡ true }
         ensures ended { IfOk result (PollEnded H.apply H.start self.old self.new comm.old comm.new (P.state post.old) (P.state post.new)) }
+        ensures none_due { IfOk result (LeavesNoneDue self.new comm.new (P.state post.old) (P.state post.new)) }
         ensures halted { IfErr result (λ fault. IfStopped fault (HasHalted comm.old comm.new (P.state post.old) (P.state post.new))) }
         ensures failed { IfErr result (λ fault. UnlessStopped fault (PollFailed H.apply comm.old comm.new (P.state post.old) (P.state post.new) fault)) }
         ensures sees_the_stop { (rank : ℕ) → IsTrue ((P.state post.old).serves rank) → (P.state post.old).raised rank ≡ true → result ≡ Err Stopped }
@@ -88,6 +90,7 @@ impl Barrier {
         ensures stands { Stands H.apply H.start self.new comm.new (P.state post.new) }
         ensures answers { (one : Rank H) (before : PostState) → IsSameRank one comm.old → HasEnded H.apply H.start one comm.old before (P.state post.old) turn →
             IfOk result (IsAnswer self.old self.new (local_of comm.new ((P.state post.new).log comm.new.here)) before (P.state post.new) turn) }
+        ensures none_due { IfOk result (LeavesNoneDue self.new comm.new (P.state post.old) (P.state post.new)) }
         ensures no_memory { IfErr result (λ fault. fault ≡ NoMemory) }
         ensures barrier { IsSameBarrier self.old self.new }
     {

@@ -1,19 +1,21 @@
 -- What a poll does after its turn.
-use Rattle.std.proofs.Common.{◌≡◌, ◌-◌, ◌<◌, ◌≤◌, inl, inr, false, List, [], ◌++◌, refl, sym, ap, ◌∙◌, subst, append-nil, arith}
+use Rattle.std.proofs.Common.{◌≡◌, ℕ, ◌-◌, ◌<◌, ◌≤◌, ◌⊎◌, inl, inr, false, Option, None, Some, List, [], ◌++◌, refl, sym, ap, ◌∙◌, subst, append-nil, arith}
 use Rattle.std.specs.List.{filter}
 use Rattle.msg_codec.specs.Control.{is_control}
 use Rattle.msg_codec.specs.declared.letter.Letter.{Letter}
 use Rattle.world_core.specs.declared.entry.Entry.{Entry}
 use Rattle.world_core.specs.Log.{letters_taken}
-use Rattle.world_core.specs.Post.{PostState, local_at}
+use Rattle.world_core.specs.Post.{CountsNeverFall, PostState, local_at}
 use Rattle.world_core.specs.Rules.{IsHonest}
 use Rattle.comm_rank.specs.Agrees.{Agrees}
 use Rattle.comm_rank.specs.Fold.{Applies}
-use Rattle.comm_rank.specs.Rank.{Rank, held_letters, local_of}
+use Rattle.comm_rank.specs.Rank.{IsIdle, Rank, held_letters, local_of}
 use Rattle.comm_rank.specs.Turns.{PutsKeep}
 use Rattle.comm_rank.proofs.Moves.OnePut.{keeps_none}
-use Rattle.term_barrier.specs.Barriers.{BarrierAgrees, BarrierState, HasRoom, InRange, with_letters}
-use Rattle.term_barrier.specs.Polls.{AfterTurn, HasPutControls, IsSameBarrier, PolledLeft, Stands}
+use Rattle.term_barrier.specs.declared.polled.Polled.{Polled}
+use Rattle.term_barrier.specs.declared.polled.Polled.TheVariants.{Left, Waiting as Waits}
+use Rattle.term_barrier.specs.Barriers.{BarrierAgrees, BarrierState, HasPutTotals, HasRoom, InRange, with_letters}
+use Rattle.term_barrier.specs.Polls.{AfterTurn, FoundFull, FoundSomeFull, HasNoneDue, HasPutControls, IsSameBarrier, LeavesNoneDue, PolledLeft, Stands}
 use Rattle.term_barrier.proofs.Barriers.Handed.{agrees_handed_all, with_letters_keeps}
 use Rattle.term_barrier.proofs.Barriers.Leaving.{LeftOnce, left_now, left_once, left_outside}
 use Rattle.term_barrier.proofs.Barriers.Room.{room}
@@ -129,3 +131,20 @@ same_put held barrier told new before after same put = record {
   here = ap (λ (b : BarrierState). b.here) put.barrier ∙ same.here;
   rounds = ap (λ (b : BarrierState). b.rounds) put.barrier ∙ same.rounds;
 }
+
+-- ---- none is due any more
+
+pub none_due : {C : Type 0} (barrier : BarrierState) (me : Rank C) (before after : PostState) (full : Option ℕ) → FoundFull full before after →
+    (full ≡ None → IsIdle me → barrier.counted < barrier.rounds → barrier.known < barrier.counted) →
+    (full ≡ None → barrier.known < barrier.counted → HasPutTotals barrier) → FoundSomeFull before after ⊎ HasNoneDue barrier me
+none_due barrier me before after None found count totals = inr (record { count = count refl; totals = totals refl })
+none_due barrier me before after (Some to) found count totals = inl (record { to = to; full = found })
+
+-- a turn before leaves none due either
+pub none_due_later : {C : Type 0} (barrier : BarrierState) (me : Rank C) (before looked after : PostState) → CountsNeverFall before looked → (answer : Polled) →
+    LeavesNoneDue barrier me looked after answer → LeavesNoneDue barrier me before after answer
+none_due_later barrier me before looked after counts (Left number round) due = due
+none_due_later barrier me before looked after counts (Waits why) due = elim due [
+  | inl some ↦ inl (record { to = some.to; full = omega (arith, some.full, counts.fulls some.to) })
+  | inr none ↦ inr none
+]

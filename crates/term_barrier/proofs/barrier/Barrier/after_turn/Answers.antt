@@ -4,7 +4,7 @@ use Rattle.comm_rank.specs.Rank.{Rank, held_letters, local_of}
 use Rattle.term_barrier.specs.contracts.barrier.Barrier.{the_view}
 use Rattle.term_barrier.specs.Barriers.{BarrierState, with_letters}
 use Rattle.term_barrier.specs.Polls.{IsSameBarrier, PolledLeft, Stands}
-use Rattle.term_barrier.proofs.Polls.AfterTurn.{has_room, inside_still, polled_left, same_handed, same_left, same_put, stands_handed, stands_outside}
+use Rattle.term_barrier.proofs.Polls.AfterTurn.{has_room, inside_still, none_due, polled_left, same_handed, same_left, same_put, stands_handed, stands_outside}
 use Rattle.term_barrier.proofs.Polls.Reasons.{reason}
 use Rattle.term_barrier.proofs.barrier.Barrier.after_turn.Goals as goal
 
@@ -104,3 +104,9 @@ returns-clause-barrier g c =
     let barrier = c.args.self.now in
     same_put (held_letters c.hear_all.new.comm) barrier c.hear_all.new.self c.put_controls-put.new.self (g.P.Post.state c.args.post.now) (g.P.Post.state c.put_controls-put.new.post)
     (subst (IsSameBarrier barrier) (sym c.hear_all.ensures.heard) (same_handed barrier c.args.comm.now.controls)) c.put_controls-put.ensures.controls
+
+pub returns-clause-none_due : goal.returns-clause-none_due
+returns-clause-none_due g c =
+    let ok : c.put_controls-put.result ≡ Ok c.in_ok-full.full = c.in_ok-full.was in
+    none_due c.put_controls-put.new.self c.hear_all.new.comm (g.P.Post.state c.args.post.now) (g.P.Post.state c.put_controls-put.new.post) c.in_ok-full.full
+    c.in_ok-full.ensures.full (λ none. c.put_controls-put.ensures.count_put (ok ∙ ap Ok none)) (λ none. c.put_controls-put.ensures.totals_put (ok ∙ ap Ok none))

@@ -1,6 +1,7 @@
 use Rattle.std.proofs.Common.{◌≡◌, false, ap, ◌∙◌}
 use Rattle.std.proofs.lemmas.Result.{IfErr-weaker, IfOk-weaker}
 use Rattle.comm_rank.specs.Rank.{Rank}
+use Rattle.term_barrier.proofs.Polls.AfterTurn.{none_due_later}
 use Rattle.term_barrier.proofs.Polls.Ended.{keeps_failed, keeps_poll, poll_ended, put_failed, same_going, stands_turned}
 use Rattle.term_barrier.proofs.barrier.Barrier.poll.Goals as goal
 
@@ -41,3 +42,10 @@ returns-else-is_err-clause-post g c =
     keeps_poll g.H.Handler.apply g.H.Handler.start c.args.self.now c.args.comm.now c.turn.new.self (g.P.Post.state c.args.post.now) (g.P.Post.state c.turn.new.post)
     c.in_ok-turn.turn (same_going c.args.comm.now c.turn.new.self c.in_ok-turn.ensures.rank) c.in_ok-turn.ensures.ended c.after_turn-polled.new.comm
     (g.P.Post.state c.after_turn-polled.new.post) c.after_turn-polled.ensures.after c.turn.ensures.post
+
+pub returns-else-is_err-clause-none_due : goal.returns-else-is_err-clause-none_due
+returns-else-is_err-clause-none_due g c =
+    IfOk-weaker c.after_turn-polled.result _ _
+    (none_due_later c.after_turn-polled.new.self c.after_turn-polled.new.comm (g.P.Post.state c.args.post.now) (g.P.Post.state c.turn.new.post)
+    (g.P.Post.state c.after_turn-polled.new.post) c.turn.ensures.post.counts)
+    c.after_turn-polled.ensures.none_due
