@@ -177,6 +177,7 @@ pub record AfterTurn {C : Type 0} (old new : Rank C) (before after : PostState) 
 pub record PollEnded {C : Type 0} (apply : Applies C) (start : C → C) (old new : BarrierState) (one me : Rank C) (before after : PostState) (answer : Polled) : Type 0 where
   pub turn : Turn
   pub polled : HasPolled apply one me (before.log one.here) (after.log one.here) turn
+  pub same_rank : IsSameRank one me
   pub stands : Stands apply start new me after
   pub answers : IsAnswer old new (local_of me (after.log one.here)) before after turn answer
   pub takes_from_each : (from : ℕ) → from < one.layout.ranks → LookedAt one.here from before after

@@ -37,7 +37,6 @@ pub fn polls_of_a_barrier_add_up<C>()
     ensures ended { (apply : Applies C) (start : C → C) (outside old new : BarrierState) (one me now : Rank C)
         (before mid after : PostState) (number round : ℕ) →
         HasWaited apply start (record outside { inside = true }) old one me before mid →
-        Worked (record me { stopped = false }) now →
         PollEnded apply start old new me now mid after (Left number round) →
         BarrierEnded apply start outside new one now before after number round }
 {}

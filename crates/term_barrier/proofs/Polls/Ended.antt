@@ -66,14 +66,23 @@ module _ {C : Type 0} (apply : Applies C) (start : C → C) (barrier : BarrierSt
         looked_then one.here mid.here before looked after here then.keeps.misses then.gained.controls log
         (puts_of_controls then.gained.controls then.gained.each) from (ended.takes_from_each from within)
 
+    pub same_after : IsSameRank one me
+    same_after = record {
+      layout = ap (λ (r : Rank C). r.layout) then.handed_over ∙ same.layout;
+      scheme = ap (λ (r : Rank C). r.scheme) then.handed_over ∙ same.scheme;
+      here = ap (λ (r : Rank C). r.here) then.handed_over ∙ here;
+      most = ap (λ (r : Rank C). r.most) then.handed_over ∙ same.most;
+    }
+
     pub poll_ended : (new : BarrierState) (answer : Polled) → Stands apply start new me after →
         IsAnswer barrier new (local_of me (after.log me.here)) before after turn answer → PollEnded apply start barrier new one me before after answer
     poll_ended new answer stands answers = record {
       turn = turn;
       polled = has_polled;
+      same_rank = same_after;
       stands = stands;
       answers = subst (λ h. IsAnswer barrier new (local_of me (after.log h)) before after turn answer)
-          (ap (λ (r : Rank C). r.here) then.handed_over ∙ here) answers;
+          same_after.here answers;
       takes_from_each = looked_at_each;
       stops = λ rank. then.keeps.stops rank ∙ ended.stops rank;
       halts = then.keeps.halts ∙ ended.halts;
@@ -118,12 +127,7 @@ module _ {C : Type 0} (apply : Applies C) (start : C → C) (barrier : BarrierSt
 
   pub keeps_failed : KeepsPost one before looked → KeepsPost one before ended_at
   keeps_failed first =
-      let same_me : IsSameRank one me = record {
-        layout = ap (λ (r : Rank C). r.layout) then.handed_over ∙ same.layout;
-        scheme = ap (λ (r : Rank C). r.scheme) then.handed_over ∙ same.scheme;
-        here = me_here;
-        most = ap (λ (r : Rank C). r.most) then.handed_over ∙ same.most;
-      } in
+      let same_me = same_after apply start barrier one mid before looked turn same ended me after then in
       keeps_post_then one me before after ended_at same_me
       (keeps_post_then one mid before looked after same first (keeps_after_turn apply start barrier one mid before looked turn same ended me after then))
       (keeps_halted me after ended_at raised keeps)

@@ -5,7 +5,7 @@ use Rattle.list_facts.proofs.Prefix.{prefix_refl, prefix_trans}
 use Rattle.msg_codec.specs.declared.letter.Letter.{Letter}
 use Rattle.world_core.specs.Post.{PostState, SameStops}
 use Rattle.comm_rank.specs.Fold.{Applies}
-use Rattle.comm_rank.specs.Rank.{IsSameRank, Rank, Worked, local_of}
+use Rattle.comm_rank.specs.Rank.{Rank, Worked, local_of}
 use Rattle.comm_rank.specs.Turns.{Advanced, KeepsPost}
 use Rattle.comm_rank.proofs.Rank.Same.{same_rank_more, same_rank_none, worked_same}
 use Rattle.comm_rank.proofs.Running.TookBelow.{advanced_more}
@@ -100,10 +100,10 @@ module _ {C : Type 0} (apply : Applies C) (start : C → C) (entered barrier lef
       (subst (λ here. IsPrefix (mid.log here) (after.log here)) waited.same_rank.here
       (polled_grows apply me now (mid.log me.here) (after.log me.here) ended.turn ended.polled))
 
-  counted_then : IsSameRank me now → PutAllBeforeCounts apply one (before.log one.here) (after.log one.here)
-  counted_then same_now =
+  counted_then : PutAllBeforeCounts apply one (before.log one.here) (after.log one.here)
+  counted_then =
       counted_more apply one me now (before.log one.here) (mid.log one.here) (after.log one.here) ended.turn waited.run
-      waited.none_waited waited.same_rank same_now waited.advanced
+      waited.none_waited waited.same_rank ended.same_rank waited.advanced
       (subst (λ here. HasPolled apply me now (mid.log here) (after.log here) ended.turn) waited.same_rank.here ended.polled)
       waited.counted
 
@@ -118,7 +118,7 @@ module _ {C : Type 0} (apply : Applies C) (start : C → C) (entered barrier lef
     advanced = advanced_then;
     grown = grown_then;
     none_waited = waited.none_waited;
-    counted = counted_then (worked_same me now false worked);
+    counted = counted_then;
     stands = ended.stands;
     same = same_barrier_then entered barrier left waited.same same;
     waits = record { same_left = waits.same_left ∙ waited.waits.same_left; inside = waits.inside };
@@ -130,14 +130,14 @@ module _ {C : Type 0} (apply : Applies C) (start : C → C) (entered barrier lef
   }
 
   -- or the rank left its barrier
-  left_then : (outside : BarrierState) → entered.left ≡ outside.left → IsSameRank me now → (number round : ℕ) →
+  left_then : (outside : BarrierState) → entered.left ≡ outside.left → (number round : ℕ) →
       PolledLeft barrier left (local_of now (after.log me.here)) number round →
       BarrierEnded apply start outside left one now before after number round
-  left_then outside same same_now number round leaves = record {
+  left_then outside same number round leaves = record {
     run = run_since;
     advanced = advanced_then;
     grown = grown_then;
-    counted = counted_then same_now;
+    counted = counted_then;
     stands = ended.stands;
     left = record {
       number_is = leaves.number_is ∙ waited.waits.same_left ∙ same;
@@ -159,10 +159,10 @@ module _ {C : Type 0} (apply : Applies C) (start : C → C) (entered barrier lef
       waited_then apply start entered barrier left one me now before mid after waited (Waits why) ended same worked keeps ended.answers.0
 
   -- `outside` is the barrier before it was entered
-  pub barrier_ended : (outside : BarrierState) → entered.left ≡ outside.left → Worked (record me { stopped = false }) now → (number round : ℕ) →
+  pub barrier_ended : (outside : BarrierState) → entered.left ≡ outside.left → (number round : ℕ) →
       (answer : Polled) → answer ≡ Left number round → PollEnded apply start barrier left me now mid after answer →
       BarrierEnded apply start outside left one now before after number round
-  barrier_ended outside same worked number round answer is any =
+  barrier_ended outside same number round answer is any =
       let leaves = Left number round in
       let ended = subst (PollEnded apply start barrier left me now mid after) is any in
-      left_then apply start entered barrier left one me now before mid after waited leaves ended outside same (worked_same me now false worked) number round ended.answers
+      left_then apply start entered barrier left one me now before mid after waited leaves ended outside same number round ended.answers

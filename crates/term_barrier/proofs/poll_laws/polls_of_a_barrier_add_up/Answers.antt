@@ -11,6 +11,6 @@ returns-clause-more g c = λ apply start entered old new one me now before mid a
     waited_more apply start entered old new one me now before mid after waited why same worked keeps (Waits why) refl
 
 pub returns-clause-ended : goal.returns-clause-ended
-returns-clause-ended g c = λ apply start outside old new one me now before mid after number round waited worked.
-    barrier_ended apply start (record outside { inside = true }) old new one me now before mid after waited outside refl worked
+returns-clause-ended g c = λ apply start outside old new one me now before mid after number round waited.
+    barrier_ended apply start (record outside { inside = true }) old new one me now before mid after waited outside refl
     number round (Left number round) refl

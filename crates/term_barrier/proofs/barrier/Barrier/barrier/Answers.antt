@@ -41,8 +41,8 @@ returns-in-Left-clause-ended g c =
     let state = g.P.Post.state in
     let entered = record c.args.self.now { inside = true } in
     barrier_ended g.H.Handler.apply g.H.Handler.start entered c.loop.self c.poll.new.self c.args.comm.now c.loop.comm c.poll.new.comm
-    (state c.args.post.now) (state c.loop.post) (state c.poll.new.post) c.loop.invariant c.args.self.now refl c.in_ok-barrier.ensures.rank
-    c.in-Left.barrier c.in-Left.round c.in_ok-barrier.field-0 c.in-Left.is c.in_ok-barrier.ensures.ended
+    (state c.args.post.now) (state c.loop.post) (state c.poll.new.post) c.loop.invariant c.args.self.now refl c.in-Left.barrier c.in-Left.round
+    c.in_ok-barrier.field-0 c.in-Left.is c.in_ok-barrier.ensures.ended
 
 pub returns-in-Left-clause-rank : goal.returns-in-Left-clause-rank
 returns-in-Left-clause-rank g c =
