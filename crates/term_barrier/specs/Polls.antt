@@ -23,7 +23,7 @@ use Rattle.term_barrier.specs.declared.polled.Polled.{Polled}
 use Rattle.term_barrier.specs.declared.polled.Polled.TheVariants.{Left, Waiting as Waits}
 use Rattle.term_barrier.specs.declared.polled.Waiting.{Waiting}
 use Rattle.term_barrier.specs.declared.polled.Waiting.TheVariants.{Worked, Link, Count, Total, Spent}
-use Rattle.term_barrier.specs.Barriers.{BarrierAgrees, BarrierState, HasNoneToPut, IsMissing}
+use Rattle.term_barrier.specs.Barriers.{BarrierAgrees, BarrierState, HasHeardAll, HasNoneToPut, IsMissing}
 use Rattle.term_barrier.specs.Left.{HasLeft}
 
 -- a put of control letters alone
@@ -63,15 +63,15 @@ pub record PolledLeft (old new : BarrierState) (me : Local) (number round : ℕ)
   pub one_more : new.left ≡ old.left + 1
   pub outside : new.inside ≡ false
 
--- it took no Total that ends the barrier
+-- The rank is still inside, and has left no more barriers than before.
 pub record PolledWaiting (old new : BarrierState) : Type 0 where
   pub same_left : new.left ≡ old.left
   pub inside : new.inside ≡ true
 
--- A put to this rank found the link full, or no put found a link full.
-abbrev pub FoundFull : Option ℕ → PostState → PostState → Type 0
-FoundFull None old new = SameFulls old new
-FoundFull (Some to) old new = Rose (old.fulls to) (new.fulls to)
+-- A put to this rank, one of so many, found the link full, or no put found a link full.
+abbrev pub FoundFull : ℕ → Option ℕ → PostState → PostState → Type 0
+FoundFull ranks None old new = SameFulls old new
+FoundFull ranks (Some to) old new = (to < ranks) × Rose (old.fulls to) (new.fulls to)
 
 -- Rank 0 put its own Count of the round, and waits for that of this rank, from which it found nothing. The Counts of all
 -- ranks below were taken.
@@ -98,13 +98,13 @@ pub record IsSpent (me : Local) (rounds : ℕ) : Type 0 where
 
 -- It took no batch, and no put found a link full.
 abbrev pub IsStill : Turn → PostState → PostState → Type 0
-IsStill turn old new = (turn.took ≡ 0) × FoundFull None old new
+IsStill turn old new = (turn.took ≡ 0) × SameFulls old new
 
 -- Why it waits: it worked; or else a link was full; or else a Count, or else a Total wasn't there; or else no round is
 -- left.
 abbrev pub IsReason : BarrierState → Local → PostState → PostState → Turn → Waiting → Type 0
 IsReason barrier me old new turn (Worked took) = (took ≡ turn.took) × (0 < took)
-IsReason barrier me old new turn (Link to) = (turn.took ≡ 0) × FoundFull (Some to) old new
+IsReason barrier me old new turn (Link to) = (turn.took ≡ 0) × FoundFull me.layout.ranks (Some to) old new
 IsReason barrier me old new turn (Count rank round) = IsStill turn old new × PolledCount me old new rank round
 IsReason barrier me old new turn (Total round) = IsStill turn old new × PolledTotal me old new round
 IsReason barrier me old new turn (Spent round) = IsStill turn old new × (round ≡ barrier.rounds) × IsSpent me round
@@ -133,6 +133,14 @@ pub record HasPutControls (held : List Letter) (old new : BarrierState) (before 
   pub keeps : PutsKeep old.here before after
   pub honest : IsHonest (local_at before old.here) → IsHonest (local_at after old.here)
 
+-- What was due was put, unless this link was found full: the Count of the next round, where the rank holds no letter, and
+-- at rank 0 the Totals of the present round.
+pub record HasPutDue (held : List Letter) (barrier : BarrierState) (full : Option ℕ) (before after : PostState) : Type 0 where
+  pub found : FoundFull barrier.layout.ranks full before after
+  pub count : held ≡ [] → barrier.counted < barrier.rounds → (barrier.known < barrier.counted) ⊎ (full ≡ Some 0)
+  pub totals : barrier.here ≡ 0 → HasHeardAll barrier → barrier.known < barrier.counted →
+      (barrier.known < barrier.over) ⊎ IsTrue (is_some full)
+
 -- the first rank of two, where there is one
 abbrev pub either : Option ℕ → Option ℕ → Option ℕ
 either None other = other
@@ -156,27 +164,44 @@ pub record AfterTurn {C : Type 0} (old new : Rank C) (before after : PostState) 
 
 -- ---- the outcomes of a poll
 
+-- What was due was put, or its link was found full: the Count of the next round, where the rank holds no letter and may
+-- count one more, and at rank 0 the Totals of the present round, whose Counts it was all handed.
+pub record PutsDue (held : List Letter) (barrier : BarrierState) (before after : PostState) : Type 0 where
+  pub count : held ≡ [] → barrier.counted < barrier.rounds →
+      (barrier.known < barrier.counted) ⊎ Rose (before.fulls 0) (after.fulls 0)
+  pub totals : barrier.here ≡ 0 → HasHeardAll barrier → barrier.known < barrier.counted →
+      (barrier.known < barrier.over) ⊎ ((to : ℕ) × (to < barrier.layout.ranks) × Rose (before.fulls to) (after.fulls to))
+
 -- It ended: a turn that ended, and puts of control letters. Nobody raised the stop.
 pub record PollEnded {C : Type 0} (apply : Applies C) (start : C → C) (old new : BarrierState) (one me : Rank C) (before after : PostState) (answer : Polled) : Type 0 where
   pub turn : Turn
   pub polled : HasPolled apply one me (before.log one.here) (after.log one.here) turn
   pub stands : Stands apply start new me after
   pub answers : IsAnswer old new (local_of me (after.log one.here)) before after turn answer
+  pub puts_due : new.inside ≡ true → PutsDue (held_letters me) new before after
   pub takes_from_each : (from : ℕ) → from < one.layout.ranks → LookedAt one.here from before after
   pub stops : SameStops before after
   pub halts : after.halts ≡ before.halts
 
--- It failed after a turn that ended, for lack of memory for a put: the rank is stopped, and raised the stop.
-pub record PutFailed {C : Type 0} (apply : Applies C) (one me : Rank C) (before after : PostState) (fault : CommFault) : Type 0 where
+-- It failed after a turn that ended, for lack of memory for a put: the rank is stopped, and raised the stop. The control
+-- letters were handed over, and some may have been put; the barrier agrees with the log, and the rank is still inside.
+pub record PutFailed {C : Type 0} (apply : Applies C) (start : C → C) (old new : BarrierState) (one me : Rank C) (before after : PostState) (fault : CommFault) : Type 0 where
   pub turn : Turn
   pub polled : HasPolled apply one (record me { stopped = false }) (before.log one.here) (after.log one.here) turn
+  pub stands : Stands apply start new me after
+  pub waits : PolledWaiting old new
   pub no_memory : fault ≡ NoMemory
   pub raises_the_stop : after.raised one.here ≡ true
   pub halts : after.halts ≡ before.halts
 
--- its turn failed, or a put after it
-abbrev pub PollFailed : {C : Type 0} → Applies C → Rank C → Rank C → PostState → PostState → CommFault → Type 0
-PollFailed apply one me before after fault = HasFailed apply one me before after fault ⊎ PutFailed apply one me before after fault
+-- its turn failed, and the barrier is unchanged; or a put after it failed
+abbrev pub PollFailed : {C : Type 0} → Applies C → (C → C) → BarrierState → BarrierState → Rank C → Rank C → PostState → PostState → CommFault → Type 0
+PollFailed apply start old new one me before after fault =
+    (HasFailed apply one me before after fault × (new ≡ old)) ⊎ PutFailed apply start old new one me before after fault
+
+-- its turn met the stop, and did nothing; nor did the poll
+abbrev pub PollHalted : {C : Type 0} → BarrierState → BarrierState → Rank C → Rank C → PostState → PostState → Type 0
+PollHalted old new one me before after = HasHalted one me before after × (new ≡ old)
 
 -- what no call changes of a barrier
 pub record IsSameBarrier (old new : BarrierState) : Type 0 where
@@ -211,10 +236,10 @@ pub record BarrierEnded {C : Type 0} (apply : Applies C) (start : C → C) (old 
   pub halts : after.halts ≡ before.halts
 
 -- A barrier that ended with a fault: after polls that waited, one failed. It met the stop, or failed itself.
-pub record BarrierFailed {C : Type 0} (apply : Applies C) (start : C → C) (old : BarrierState) (one me : Rank C) (before after : PostState) (fault : CommFault) : Type 0 where
+pub record BarrierFailed {C : Type 0} (apply : Applies C) (start : C → C) (old new : BarrierState) (one me : Rank C) (before after : PostState) (fault : CommFault) : Type 0 where
   pub barrier : BarrierState
   pub rank : Rank C
   pub post : PostState
   pub waited : HasWaited apply start old barrier one rank before post
-  pub halted : IfStopped fault (HasHalted rank me post after)
-  pub failed : UnlessStopped fault (PollFailed apply rank me post after fault)
+  pub halted : IfStopped fault (PollHalted barrier new rank me post after)
+  pub failed : UnlessStopped fault (PollFailed apply start barrier new rank me post after fault)

@@ -89,8 +89,8 @@ impl Barrier {
         self.inside
     }
 
-    /// Does nothing, and states what is always true.
-    pub(crate) fn holds(&self)
+    /// Does nothing, and states what is always true: among others, that it counted no more rounds than it may.
+    pub fn holds(&self)
         ensures in_range { InRange self.now }
     {
         let _ = &self.alloc;
