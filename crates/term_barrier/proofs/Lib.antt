@@ -13,3 +13,4 @@ pub mod Puts
 pub mod Sums
 pub mod Waited
 pub mod Polls
+pub mod Carried

@@ -1,3 +1,4 @@
 pub mod Reasons
 pub mod AfterTurn
 pub mod Ended
+pub mod Stands

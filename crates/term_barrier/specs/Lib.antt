@@ -7,6 +7,7 @@ pub mod Passed
 pub mod SilentRun
 pub mod Left
 pub mod Polls
+pub mod Carried
 pub mod Barriers
 pub mod Served
 pub mod Worked

@@ -2,6 +2,7 @@
 #![tactic(auto)]
 
 mod barrier;
+pub mod carried_laws;
 mod heard;
 pub mod laws;
 mod poll;

@@ -6,6 +6,7 @@ mod relay;
 mod rounds;
 mod waits;
 
+use super::carried_laws::*;
 use super::laws::*;
 use super::run_laws::*;
 use comm_rank::{Handler, Outgoing};
@@ -62,5 +63,10 @@ fn the_laws_can_be_cited() {
     a_barrier_knows_the_rounds_of_its_log();
     a_barrier_has_room_for_what_it_is_handed();
     all_is_settled_where_a_barrier_ended::<u64>();
+    a_rank_outside_carries_its_own_letters::<Silent>();
+    the_same_letters_and_rounds_are_carried_too::<u64>();
+    turns_keep_what_a_rank_carries::<Silent>();
+    polls_keep_what_a_rank_carries::<Silent>();
+    ranks_that_carry_all_phases_have_passed::<Silent>();
     a_rank_alone_leaves_at_its_second_round();
 }

@@ -1,11 +1,12 @@
 -- What the job tally writes: for each distinct line, in byte order, the number of lines equal to it and the line.
-use Rattle.std.specs.Prelude.{◌≡◌, ◌≢◌, ◌↔◌, ℕ, ◌<◌, List, [], ◌∷◌, ◌++◌, AllPairs, Contains, IsPermutation, IsSorted, bytes_eq, codes, count_by, decimal, flat_map, map}
+use Rattle.std.specs.Prelude.{◌≡◌, ℕ, List, [], ◌∷◌, ◌++◌, IsPermutation, IsSorted, bytes_eq, codes, count_by, decimal, flat_map, map}
 use Rattle.std.specs.BTreeSet.{insert_key}
 use Rattle.std.specs.Cmp.Lexicographic.{slice_cmp}
 use Rattle.std.specs.Ordering.{nat_cmp, ordering_then}
 use Rattle.std.specs.declared.cmp.Ordering.{Ordering}
 use Rattle.std.specs.declared.cmp.Ordering.TheVariants.{Less}
 use Rattle.std.specs.Borrow.{Bor}
+use Rattle.counting_set.specs.Counting.{HasCounts}
 
 -- the order of lists of bytes
 abbrev pub byte_order : List ℕ → List ℕ → Ordering
@@ -56,11 +57,8 @@ abbrev pub tally_text : List (List (List ℕ)) → List ℕ
 tally_text files = table_with (distinct_items (all_lines files)) (all_lines files)
 
 -- the pairs of an item and a count, in some order, are the distinct lines with their numbers
-pub record AreCounts (counted : List (List ℕ × ℕ)) (lines : List (List ℕ)) : Type 0 where
-  -- no item is in two pairs
-  pub once : AllPairs (λ pair later. pair.0 ≢ later.0) counted
-  -- an item and a count are a pair exactly where so many lines, and at least one, are equal to the item
-  pub exact : (item : List ℕ) (count : ℕ) → Contains counted (item, count) ↔ ((count ≡ times item lines) × (0 < count))
+abbrev pub AreCounts : List (List ℕ × ℕ) → List (List ℕ) → Type 0
+AreCounts counted lines = HasCounts counted (λ item. times item lines)
 
 -- the pairs of entries, which borrow their items
 abbrev pub pairs_of : List (Bor (List ℕ) × ℕ) → List (List ℕ × ℕ)

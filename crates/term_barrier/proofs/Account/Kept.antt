@@ -58,7 +58,7 @@ account_grown handler own cut phase held held_now log more gave account = record
 module _ {C : Type 0} (handler : RankHandler C) (own other : ℕ → ℕ → List Letter) (cut other_cut : ℕ → ℕ) (phase : ℕ)
     (held : List Letter) (log : List Entry)
     (cuts : (k : ℕ) → k < phase → other_cut k ≡ cut k) (owns : (k to : ℕ) → k ≤ phase → other k to ≡ own k to) where
-  same_start : (k : ℕ) → k ≤ phase → phase_start other_cut k ≡ phase_start cut k
+  pub same_start : (k : ℕ) → k ≤ phase → phase_start other_cut k ≡ phase_start cut k
   same_start zero le = refl
   same_start (suc k) le = cuts k (omega (arith, le))
 

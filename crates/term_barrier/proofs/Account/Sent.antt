@@ -41,7 +41,7 @@ more_there : (here : ℕ) (own : ℕ → ℕ → List Letter) (phase : ℕ) (let
 more_there here own phase letters to =
     ap (λ b. cond b (own phase to ++ of_pair here to letters) (own phase to)) (eq-eqb phase phase refl)
 
-more_elsewhere : (here : ℕ) (own : ℕ → ℕ → List Letter) (phase k : ℕ) (letters : List Letter) (to : ℕ) → k ≢ phase →
+pub more_elsewhere : (here : ℕ) (own : ℕ → ℕ → List Letter) (phase k : ℕ) (letters : List Letter) (to : ℕ) → k ≢ phase →
     with_more here own phase letters k to ≡ own k to
 more_elsewhere here own phase k letters to ne =
     ap (λ b. cond b (own k to ++ of_pair here to letters) (own k to)) (ne_eqb k phase ne)

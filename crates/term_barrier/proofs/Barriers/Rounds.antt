@@ -21,9 +21,9 @@ use Rattle.term_barrier.specs.Barriers.{BarrierAgrees, BarrierState, HasEveryCou
 use Rattle.term_barrier.specs.Left.{HasLeft, barriers_left, gained}
 use Rattle.term_barrier.proofs.Barriers.Knows.{count_at, known_at, no_letter, sums_at_place, told_at}
 use Rattle.term_barrier.proofs.Barriers.Room.{few_heard}
-use Rattle.term_barrier.proofs.Left.Grown.{sums_stay}
+use Rattle.term_barrier.proofs.Left.Grown.{more_known, sums_stay}
 use Rattle.term_barrier.proofs.Left.SameSums.{ended_below-same, first_round-same}
-use Rattle.term_barrier.proofs.Left.Since.{ends_later, one_more}
+use Rattle.term_barrier.proofs.Left.Since.{ends_later, first_grows, one_more}
 
 -- a round after which a barrier begins ended the one before
 ended_there : (sums : ℕ → Sums) (q : ℕ) → first_round sums (suc q) ≡ suc q → ends sums q ≡ true
@@ -164,12 +164,28 @@ module _ (barrier : BarrierState) (kept : List Letter) (me : Local) (modest : Is
       sym (get_or-append (totals_heard barrier.here agrees.handed) (totals_heard barrier.here kept) no_sums q (omega (arith, lt, agrees.its_rounds.known_are)))
       ∙ ap (λ xs. get_or xs q no_sums) (sym both_heard) ∙ told_at me modest q
 
-  -- where its rank then left the next barrier, it did so at a round after the first of that barrier
-  pub left_first : (more : List Entry) (round : ℕ) → HasLeft (gained me more) barrier.left round → barrier.first < round
-  left_first more round left =
-      let heard = sums_heard barrier.here agrees.handed in
-      let now = sums_told me.here (me.log ++ more) in
-      let same : (q : ℕ) → q < barrier.known → heard q ≡ now q = λ q lt. told_first q lt ∙ sums_stay me more q (omega (arith, lt, known_within)) in
-      let first : barrier.first ≡ first_round now barrier.known = agrees.its_rounds.first_is ∙ first_round-same heard now barrier.known same in
-      let number : barrier.left ≡ ended_below now barrier.known = agrees.its_rounds.left_are ∙ ended_below-same heard now barrier.known same in
-      omega (arith, first, ends_later now barrier.known round left.ended (left.number ∙ number))
+  -- ---- the log gains more
+
+  module _ (more : List Entry) where
+    abbrev now : ℕ → Sums
+    now = sums_told me.here (me.log ++ more)
+
+    told_now : (q : ℕ) → q < barrier.known → sums_heard barrier.here agrees.handed q ≡ now q
+    told_now q lt = told_first q lt ∙ sums_stay me more q (omega (arith, lt, known_within))
+
+    first_now : barrier.first ≡ first_round now barrier.known
+    first_now = agrees.its_rounds.first_is ∙ first_round-same (sums_heard barrier.here agrees.handed) now barrier.known told_now
+
+    -- the log is in no earlier barrier
+    pub first_before : barrier.first ≤ barrier_start me.here (me.log ++ more)
+    unfolding barrier_start
+    first_before =
+        let later = rounds_known me.here (me.log ++ more) in
+        omega (arith, first_now, first_grows now barrier.known later (omega (arith, known_within, more_known me more)))
+
+    -- where its rank then left the next barrier, it did so at a round after the first of that barrier
+    pub left_first : (round : ℕ) → HasLeft (gained me more) barrier.left round → barrier.first < round
+    left_first round left =
+        let heard = sums_heard barrier.here agrees.handed in
+        let number : barrier.left ≡ ended_below now barrier.known = agrees.its_rounds.left_are ∙ ended_below-same heard now barrier.known told_now in
+        omega (arith, first_now, ends_later now barrier.known round left.ended (left.number ∙ number))

@@ -7,9 +7,9 @@ use Rattle.world_core.specs.declared.entry.Entry.{Entry}
 use Rattle.world_core.specs.Pairs.{of_pair, sent}
 use Rattle.term_barrier.specs.Account.{Account, IsMadeOf, RankHandler, given_in}
 use Rattle.term_barrier.specs.CountedPlace.{IsCountedPlace}
-use Rattle.term_barrier.specs.Cuts.{phase_part, phase_start}
+use Rattle.term_barrier.specs.Cuts.{between, phase_part, phase_start}
 use Rattle.term_barrier.proofs.Account.Grown.{SentGiven, given_alone_grown}
-use Rattle.term_barrier.proofs.Account.Kept.{made_elsewhere}
+use Rattle.term_barrier.proofs.Account.Kept.{made_elsewhere, made_same}
 use Rattle.term_barrier.proofs.Cuts.Joined.{between_grown}
 use Rattle.term_barrier.proofs.Merge.Joined.{merge_of_other, merge_same}
 
@@ -51,3 +51,14 @@ account_next {C} handler own cut phase held log account counted none = record {
   where
     last : (P : ℕ → Type 0) (k : ℕ) → k < suc phase → ((j : ℕ) → j < phase → P j) → P phase → P k
     last P k lt below here = ⊎_elim (λ e. subst P (sym e) here) (λ ne. below k (omega (arith, lt, ne))) (cases_eq k phase)
+
+-- it speaks of own letters by their destination
+pub counted_same : {C : Type 0} (handler : RankHandler C) (own other : ℕ → List Letter) (begin place : ℕ)
+    (held : List Letter) (log : List Entry) → ((to : ℕ) → other to ≡ own to) →
+    IsCountedPlace handler own begin place held log → IsCountedPlace handler other begin place held log
+counted_same handler own other begin place held log owns counted = record {
+  order = counted.order;
+  within = counted.within;
+  before = made_same handler own other (take begin log) (between begin place log) [] owns counted.before;
+  since = counted.since;
+}

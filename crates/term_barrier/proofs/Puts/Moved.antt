@@ -22,6 +22,7 @@ use Rattle.comm_rank.proofs.Moves.OnePut.{honest_put, puts_keep}
 use Rattle.term_barrier.specs.Barriers.{BarrierAgrees, BarrierState, HasEveryCount, InRange, IsTotalDue, round_sums, with_count_put, with_total_put}
 use Rattle.term_barrier.specs.Polls.{HasPutControls, Stands}
 use Rattle.term_barrier.proofs.Barriers.Rounds.{sums_are}
+use Rattle.term_barrier.proofs.Polls.Stands.{stands_unchanged}
 use Rattle.term_barrier.proofs.Puts.Agrees.{agrees_count, agrees_total}
 use Rattle.term_barrier.proofs.Puts.Due.{count_due, total_due}
 use Rattle.term_barrier.proofs.Puts.Log.{is_free-total}
@@ -65,16 +66,7 @@ pub stands_still : {C : Type 0} (apply : Applies C) (start : C → C) (barrier :
     Stands apply start barrier me before → SamePost barrier.here before after → after.log barrier.here ≡ before.log barrier.here → Stands apply start barrier me after
 stands_still apply start barrier me before after stands same unchanged =
     let log : after.log me.here ≡ before.log me.here = subst (λ h. after.log h ≡ before.log h) stands.agrees.here unchanged in
-    record {
-      belongs = record {
-        serves = same.serves me.here ∙ stands.belongs.serves;
-        layout = same.layout ∙ stands.belongs.layout;
-        scheme = same.scheme ∙ stands.belongs.scheme;
-        agrees = subst (Agrees apply start me) (sym log) stands.belongs.agrees;
-      };
-      may_turn = subst (MayTurn me) (sym log) stands.may_turn;
-      agrees = subst (λ entries. BarrierAgrees barrier me.controls (local_of me entries)) (sym log) stands.agrees;
-    }
+    stands_unchanged apply start barrier me barrier.here before after same log stands
 
 -- ---- one put
 

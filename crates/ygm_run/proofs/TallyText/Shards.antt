@@ -30,8 +30,8 @@ once_in_all owner from (shard ∷ shards) once owned =
 
 pub AreCounts-from_shards : (owner : List ℕ → ℕ) (shards : List (List Pair)) (lines : List (List ℕ)) → AreShards owner shards lines → AreCounts (flat_map (λ shard. shard) shards) lines
 AreCounts-from_shards owner shards lines h = record {
-  once = once_in_all owner 0 shards h.once (λ d pair within among. let of = ((h.exact d within pair.0 pair.1).0 among).0 in omega arith);
-  exact = λ item count. (
+  distinct = once_in_all owner 0 shards h.once (λ d pair within among. let of = ((h.exact d within pair.0 pair.1).0 among).0 in omega arith);
+  counted = λ item count. (
     λ among. let place = from_joined shards (item, count) among in let says = (h.exact place.0 place.1 item count).0 place.2 in (says.1, says.2),
     λ counts.
         let stands : Contains lines item = Contains-from_times item lines (subst (λ n. 0 < n) counts.0 counts.1) in

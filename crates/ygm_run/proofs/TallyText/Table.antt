@@ -36,10 +36,10 @@ once_in_other_order counted sorted moved once i j d less within =
 
 pub AreCounts-permutation : (counted sorted : List Pair) (lines : List (List ℕ)) → IsPermutation counted sorted → AreCounts counted lines → AreCounts sorted lines
 AreCounts-permutation counted sorted lines moved h = record {
-  once = once_in_other_order counted sorted moved h.once;
-  exact = λ item count. (
-    λ among. (h.exact item count).0 (Contains-permutation sorted counted (item, count) (IsPermutation-sym counted sorted moved) among),
-    λ is. Contains-permutation counted sorted (item, count) moved ((h.exact item count).1 is),
+  distinct = once_in_other_order counted sorted moved h.distinct;
+  counted = λ item count. (
+    λ among. (h.counted item count).0 (Contains-permutation sorted counted (item, count) (IsPermutation-sym counted sorted moved) among),
+    λ is. Contains-permutation counted sorted (item, count) moved ((h.counted item count).1 is),
   );
 }
 
@@ -68,12 +68,12 @@ rises_from_sorted sorted up once =
 items_stand : (counted : List Pair) (lines : List (List ℕ)) → AreCounts counted lines → (item : List ℕ) → Contains (items_of counted) item → Contains lines item
 items_stand counted lines h item among =
     let found = from_map (λ (p : Pair). p.0) counted item among in
-    let counts = (h.exact found.0.0 found.0.1).0 found.1 in
+    let counts = (h.counted found.0.0 found.0.1).0 found.1 in
     subst (Contains lines) found.2 (Contains-from_times found.0.0 lines (subst (λ n. 0 < n) counts.0 counts.1))
 
 lines_are_items : (counted : List Pair) (lines : List (List ℕ)) → AreCounts counted lines → (item : List ℕ) → Contains lines item → Contains (items_of counted) item
 lines_are_items counted lines h item among =
-    Contains-map (λ (p : Pair). p.0) counted (item, times item lines) ((h.exact item (times item lines)).1 (refl, times_from_Contains item lines among))
+    Contains-map (λ (p : Pair). p.0) counted (item, times item lines) ((h.counted item (times item lines)).1 (refl, times_from_Contains item lines among))
 
 -- rows of pairs are the rows of the items, where each count is the number of lines equal to the item
 rows_with_times : (counted : List Pair) (lines : List (List ℕ)) → All (λ pair. pair.1 ≡ times pair.0 lines) counted → tally_rows counted ≡ flat_map (λ (pair : Pair). tally_row pair.0 (times pair.0 lines)) counted
@@ -98,11 +98,11 @@ table_of_counts counted text files table counts =
     let lines = all_lines files in
     let h = AreCounts-permutation counted table.sorted lines table.same_pairs counts in
     let right : All (λ pair. pair.1 ≡ times pair.0 lines) table.sorted =
-    λ k d within. ((h.exact (get_or table.sorted k d).0 (get_or table.sorted k d).1).0 (All-contains_itself table.sorted k d within)).0 in
+    λ k d within. ((h.counted (get_or table.sorted k d).0 (get_or table.sorted k d).1).0 (All-contains_itself table.sorted k d within)).0 in
     table.rows
     ∙ rows_with_times table.sorted lines right
     ∙ sym (flat_map-map (λ item. tally_row item (times item lines)) (λ (p : Pair). p.0) table.sorted)
-    ∙ sym (table_is_text (items_of table.sorted) files (rises_from_sorted table.sorted table.in_order h.once) (λ item. (items_stand table.sorted lines h item, lines_are_items table.sorted lines h item)))
+    ∙ sym (table_is_text (items_of table.sorted) files (rises_from_sorted table.sorted table.in_order h.distinct) (λ item. (items_stand table.sorted lines h item, lines_are_items table.sorted lines h item)))
 
 -- the order of the lines doesn't matter
 pub text_of_permutation : (files others : List (List (List ℕ))) → IsPermutation (all_lines files) (all_lines others) → tally_text files ≡ tally_text others

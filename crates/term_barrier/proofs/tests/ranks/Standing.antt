@@ -14,12 +14,12 @@ use Rattle.comm_rank.specs.Agrees.{MayTurn}
 use Rattle.comm_rank.specs.Fold.{Applies}
 use Rattle.comm_rank.specs.Rank.{IsSameRank, Rank, fresh_rank, local_of}
 use Rattle.comm_rank.specs.Turns.{HasEnded}
-use Rattle.comm_rank.proofs.Rank.Same.{belongs_still}
 use Rattle.comm_rank.proofs.Settled.AreRanks.{belongs_new, may_turn_data}
 use Rattle.term_barrier.specs.declared.tests.ranks.Member.{Member}
 use Rattle.term_barrier.specs.Barriers.{BarrierAgrees, BarrierState, fresh_barrier}
 use Rattle.term_barrier.specs.Polls.{Stands}
 use Rattle.term_barrier.proofs.Barriers.Agrees.{agrees_fresh, agrees_turned}
+use Rattle.term_barrier.proofs.Polls.Stands.{stands_unchanged}
 
 module _ {C : Type 0} (apply : Applies C) (start : C → C) where
   -- a new rank, at new links
@@ -50,13 +50,7 @@ module _ {C : Type 0} (apply : Applies C) (start : C → C) where
 
     -- another rank took a turn
     pub stands_still : (here : ℕ) (after : PostState) → me.here ≢ here → SamePost here post after → Stands apply start barrier me after
-    stands_still here after other same =
-        let log : after.log me.here ≡ post.log me.here = same.other_logs me.here other in
-        record {
-          belongs = belongs_still apply start me here post after same log stands.belongs;
-          may_turn = subst (λ log. MayTurn me log) (sym log) stands.may_turn;
-          agrees = subst (λ log. BarrierAgrees barrier me.controls (local_of me log)) (sym log) stands.agrees;
-        }
+    stands_still here after other same = stands_unchanged apply start barrier me here post after same (same.other_logs me.here other) stands
 
   -- each rank of a list has the number of its place, and stands at the post unless it is stopped
   abbrev pub AllStand : List (Member C) → PostState → Type 0
