@@ -1,4 +1,4 @@
--- What a poll does to a rank and its log, and what it returns.
+-- What a poll does to a rank and its log, what it returns, and what the polls of a whole barrier add up to.
 use Rattle.std.specs.Prelude.{◌≡◌, ◌⊎◌, ℕ, pred, ◌+◌, ◌<◌, ◌≤◌, IsTrue, Bool, false, true, is_some, List, [], ◌∷◌, ◌++◌, Option, None, Some}
 use Rattle.std.specs.List.{AllByRecursion}
 use Rattle.list_facts.specs.Prefix.{IsPrefix}

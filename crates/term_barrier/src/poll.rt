@@ -18,10 +18,14 @@ impl Barrier {
     /// barrier, and if not, why.
     ///
     /// A rank puts its Count of a round once it knows the round before, holds no letter and none waits to run. Rank 0 puts
-    /// the Totals of a round once it has the Counts of all ranks.
+    /// the Totals of a round once it has the Counts of all ranks. A rank that put a Count and took no letter for itself
+    /// since may be polled only while it holds no letter of its own, as where it sends only outside barriers.
     ///
-    /// It fails as `Comm::turn` does. Where it has no memory to put a Count or a Total, it returns `NoMemory` and the rank
-    /// halts.
+    /// All ranks enter the same barriers in the same order; otherwise a rank may wait for ever.
+    ///
+    /// It fails as `Comm::turn` does, and then the barrier is unchanged. Where it has no memory to put a Count or a Total, it
+    /// returns `NoMemory`; the control letters that it took stay taken in. After a fault the rank is stopped, and unless it
+    /// met the stop it has raised it.
     pub fn poll<H: Handler, P: Post>(
         &mut self,
         comm: &mut Comm<H>,

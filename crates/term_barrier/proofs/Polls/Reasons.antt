@@ -16,7 +16,7 @@ use Rattle.comm_rank.specs.Turns.{FirstFull, HasEnded, IsFirstFull, PutsKeep}
 use Rattle.comm_rank.proofs.Agrees.AfterPuts.{same_batches_taken}
 use Rattle.term_barrier.specs.declared.polled.Waiting.{Waiting}
 use Rattle.term_barrier.specs.declared.polled.Waiting.TheVariants.{Worked, Link, Count, Total, Spent}
-use Rattle.term_barrier.specs.Barriers.{BarrierAgrees, BarrierState, HasPutTotals, InRange, IsMissing, control_letters}
+use Rattle.term_barrier.specs.Barriers.{BarrierAgrees, BarrierState, InRange, IsMissing, control_letters}
 use Rattle.term_barrier.specs.Polls.{FoundFull, HasPutDue, IsOtherReason, IsReason, Stands, either}
 use Rattle.term_barrier.proofs.Barriers.Knows.{known_at, no_letter, total_at}
 use Rattle.term_barrier.proofs.Barriers.Rounds.{known_is, not_taken, taken}

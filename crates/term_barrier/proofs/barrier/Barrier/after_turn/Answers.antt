@@ -129,5 +129,8 @@ returns-in_err-full-clause-no_memory g c =
     ∙ inside_still g.H.Handler.apply g.H.Handler.start barrier me (g.P.Post.state c.args.post.now) c.requires.stands c.holds.ensures.in_range ∙ c.requires.inside in
     let there : IfErr c.from_residual.result (λ fault. fault ≡ NoMemory) = search rules in
     IfErr-weaker c.from_residual.result _ _
-    (λ fault no_memory. (no_memory, polled_waiting (held_letters c.hear_all.new.comm) barrier told c.put_controls-put.new.self (g.P.Post.state c.args.post.now)
-    (g.P.Post.state c.put_controls-put.new.post) heard_left inside c.put_controls-put.ensures.controls)) there
+    (λ fault no_memory. (
+      no_memory,
+      polled_waiting (held_letters c.hear_all.new.comm) barrier told c.put_controls-put.new.self (g.P.Post.state c.args.post.now)
+          (g.P.Post.state c.put_controls-put.new.post) heard_left inside c.put_controls-put.ensures.controls,
+    )) there
