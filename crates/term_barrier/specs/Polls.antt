@@ -1,5 +1,5 @@
--- What a poll does to a rank and its log, and what it returns.
-use Rattle.std.specs.Prelude.{◌≡◌, ◌⊎◌, ℕ, pred, ◌+◌, ◌<◌, ◌≤◌, IsTrue, Bool, false, true, is_some, List, [], ◌∷◌, ◌++◌, Option, None, Some, ⊤}
+-- What a poll does to a rank and its log, what it returns, and what the polls of a whole barrier add up to.
+use Rattle.std.specs.Prelude.{◌≡◌, ◌⊎◌, ℕ, pred, ◌+◌, ◌<◌, ◌≤◌, IsTrue, Bool, false, true, is_some, List, [], ◌∷◌, ◌++◌, Option, None, Some}
 use Rattle.std.specs.List.{AllByRecursion}
 use Rattle.list_facts.specs.Prefix.{IsPrefix}
 use Rattle.msg_codec.specs.Control.{is_control}
@@ -18,13 +18,13 @@ use Rattle.comm_rank.specs.declared.turn.Turn.{Turn}
 use Rattle.comm_rank.specs.Agrees.{Belongs, MayTurn}
 use Rattle.comm_rank.specs.Fault.{IfStopped, UnlessStopped}
 use Rattle.comm_rank.specs.Fold.{Applies}
-use Rattle.comm_rank.specs.Rank.{IsIdle, IsSameRank, Rank, handed, held_letters, local_of, sent_to}
+use Rattle.comm_rank.specs.Rank.{IsSameRank, Rank, handed, held_letters, local_of, sent_to}
 use Rattle.comm_rank.specs.Turns.{Advanced, HasFailed, HasHalted, KeepsPost, LookedAt, PutsKeep, Turned}
 use Rattle.term_barrier.specs.declared.polled.Polled.{Polled}
 use Rattle.term_barrier.specs.declared.polled.Polled.TheVariants.{Left, Waiting as Waits}
 use Rattle.term_barrier.specs.declared.polled.Waiting.{Waiting}
 use Rattle.term_barrier.specs.declared.polled.Waiting.TheVariants.{Worked, Link, Count, Total, Spent}
-use Rattle.term_barrier.specs.Barriers.{BarrierAgrees, BarrierState, HasNoneToPut, HasPutTotals, IsMissing}
+use Rattle.term_barrier.specs.Barriers.{BarrierAgrees, BarrierState, HasHeardAll, HasNoneToPut, IsMissing}
 use Rattle.term_barrier.specs.Left.{HasLeft}
 
 -- a put of control letters alone
@@ -64,15 +64,15 @@ pub record PolledLeft (old new : BarrierState) (me : Local) (number round : ℕ)
   pub one_more : new.left ≡ old.left + 1
   pub outside : new.inside ≡ false
 
--- it took no Total that ends the barrier
+-- The rank is still inside, and has left no more barriers than before.
 pub record PolledWaiting (old new : BarrierState) : Type 0 where
   pub same_left : new.left ≡ old.left
   pub inside : new.inside ≡ true
 
--- A put to this rank found the link full, or no put found a link full.
-abbrev pub FoundFull : Option ℕ → PostState → PostState → Type 0
-FoundFull None old new = SameFulls old new
-FoundFull (Some to) old new = Rose (old.fulls to) (new.fulls to)
+-- A put to this rank, one of so many, found the link full, or no put found a link full.
+abbrev pub FoundFull : ℕ → Option ℕ → PostState → PostState → Type 0
+FoundFull ranks None old new = SameFulls old new
+FoundFull ranks (Some to) old new = (to < ranks) × Rose (old.fulls to) (new.fulls to)
 
 -- Rank 0 put its own Count of the round, and waits for that of this rank, from which it found nothing. The Counts of all
 -- ranks below were taken.
@@ -99,13 +99,13 @@ pub record IsSpent (me : Local) (rounds : ℕ) : Type 0 where
 
 -- It took no batch, and no put found a link full.
 abbrev pub IsStill : Turn → PostState → PostState → Type 0
-IsStill turn old new = (turn.took ≡ 0) × FoundFull None old new
+IsStill turn old new = (turn.took ≡ 0) × SameFulls old new
 
 -- Why it waits: it worked; or else a link was full; or else a Count, or else a Total wasn't there; or else no round is
 -- left.
 abbrev pub IsReason : BarrierState → Local → PostState → PostState → Turn → Waiting → Type 0
 IsReason barrier me old new turn (Worked took) = (took ≡ turn.took) × (0 < took)
-IsReason barrier me old new turn (Link to) = (turn.took ≡ 0) × FoundFull (Some to) old new
+IsReason barrier me old new turn (Link to) = (turn.took ≡ 0) × FoundFull me.layout.ranks (Some to) old new
 IsReason barrier me old new turn (Count rank round) = IsStill turn old new × PolledCount me old new rank round
 IsReason barrier me old new turn (Total round) = IsStill turn old new × PolledTotal me old new round
 IsReason barrier me old new turn (Spent round) = IsStill turn old new × (round ≡ barrier.rounds) × IsSpent me round
@@ -113,22 +113,6 @@ IsReason barrier me old new turn (Spent round) = IsStill turn old new × (round 
 abbrev pub IsAnswer : BarrierState → BarrierState → Local → PostState → PostState → Turn → Polled → Type 0
 IsAnswer barrier left me old new turn (Left number round) = PolledLeft barrier left me number round
 IsAnswer barrier left me old new turn (Waits why) = PolledWaiting barrier left × IsReason left me old new turn why
-
--- a put found a link full
-pub record FoundSomeFull (old new : PostState) : Type 0 where
-  pub to : ℕ
-  pub full : FoundFull (Some to) old new
-
--- No Count and no Total is due: the rank put its Count of the present round, where it is idle and may count one more, and
--- rank 0 put the Totals of that round, where it has all its Counts.
-pub record HasNoneDue {C : Type 0} (barrier : BarrierState) (me : Rank C) : Type 0 where
-  pub count : IsIdle me → barrier.counted < barrier.rounds → barrier.known < barrier.counted
-  pub totals : barrier.known < barrier.counted → HasPutTotals barrier
-
--- where it waits, none is due any more, unless a put found a link full
-abbrev pub LeavesNoneDue : {C : Type 0} → BarrierState → Rank C → PostState → PostState → Polled → Type 0
-LeavesNoneDue barrier me old new (Left number round) = ⊤
-LeavesNoneDue barrier me old new (Waits why) = FoundSomeFull old new ⊎ HasNoneDue barrier me
 
 -- ---- a barrier, its rank and their log
 
@@ -149,6 +133,14 @@ pub record HasPutControls (held : List Letter) (old new : BarrierState) (before 
   pub barrier : new ≡ record old { counted = new.counted; over = new.over; next = new.next }
   pub keeps : PutsKeep old.here before after
   pub honest : IsHonest (local_at before old.here) → IsHonest (local_at after old.here)
+
+-- What was due was put, unless this link was found full: the Count of the next round, where the rank holds no letter, and
+-- at rank 0 the Totals of the present round.
+pub record HasPutDue (held : List Letter) (barrier : BarrierState) (full : Option ℕ) (before after : PostState) : Type 0 where
+  pub found : FoundFull barrier.layout.ranks full before after
+  pub count : held ≡ [] → barrier.counted < barrier.rounds → (barrier.known < barrier.counted) ⊎ (full ≡ Some 0)
+  pub totals : barrier.here ≡ 0 → HasHeardAll barrier → barrier.known < barrier.counted →
+      (barrier.known < barrier.over) ⊎ IsTrue (is_some full)
 
 -- the first rank of two, where there is one
 abbrev pub either : Option ℕ → Option ℕ → Option ℕ
@@ -173,6 +165,14 @@ pub record AfterTurn {C : Type 0} (old new : Rank C) (before after : PostState) 
 
 -- ---- the outcomes of a poll
 
+-- What was due was put, or its link was found full: the Count of the next round, where the rank holds no letter and may
+-- count one more, and at rank 0 the Totals of the present round, whose Counts it was all handed.
+pub record PutsDue (held : List Letter) (barrier : BarrierState) (before after : PostState) : Type 0 where
+  pub count : held ≡ [] → barrier.counted < barrier.rounds →
+      (barrier.known < barrier.counted) ⊎ Rose (before.fulls 0) (after.fulls 0)
+  pub totals : barrier.here ≡ 0 → HasHeardAll barrier → barrier.known < barrier.counted →
+      (barrier.known < barrier.over) ⊎ ((to : ℕ) × (to < barrier.layout.ranks) × Rose (before.fulls to) (after.fulls to))
+
 -- It ended: a turn that ended, and puts of control letters. Nobody raised the stop.
 pub record PollEnded {C : Type 0} (apply : Applies C) (start : C → C) (old new : BarrierState) (one me : Rank C) (before after : PostState) (answer : Polled) : Type 0 where
   pub turn : Turn
@@ -180,21 +180,30 @@ pub record PollEnded {C : Type 0} (apply : Applies C) (start : C → C) (old new
   pub same_rank : IsSameRank one me
   pub stands : Stands apply start new me after
   pub answers : IsAnswer old new (local_of me (after.log one.here)) before after turn answer
+  pub puts_due : new.inside ≡ true → PutsDue (held_letters me) new before after
   pub takes_from_each : (from : ℕ) → from < one.layout.ranks → LookedAt one.here from before after
   pub stops : SameStops before after
   pub halts : after.halts ≡ before.halts
 
--- It failed after a turn that ended, for lack of memory for a put: the rank is stopped, and raised the stop.
-pub record PutFailed {C : Type 0} (apply : Applies C) (one me : Rank C) (before after : PostState) (fault : CommFault) : Type 0 where
+-- It failed after a turn that ended, for lack of memory for a put: the rank is stopped, and raised the stop. The control
+-- letters were handed over, and some may have been put; the barrier agrees with the log, and the rank is still inside.
+pub record PutFailed {C : Type 0} (apply : Applies C) (start : C → C) (old new : BarrierState) (one me : Rank C) (before after : PostState) (fault : CommFault) : Type 0 where
   pub turn : Turn
   pub polled : HasPolled apply one (record me { stopped = false }) (before.log one.here) (after.log one.here) turn
+  pub stands : Stands apply start new me after
+  pub waits : PolledWaiting old new
   pub no_memory : fault ≡ NoMemory
   pub raises_the_stop : after.raised one.here ≡ true
   pub halts : after.halts ≡ before.halts
 
--- its turn failed, or a put after it
-abbrev pub PollFailed : {C : Type 0} → Applies C → Rank C → Rank C → PostState → PostState → CommFault → Type 0
-PollFailed apply one me before after fault = HasFailed apply one me before after fault ⊎ PutFailed apply one me before after fault
+-- its turn failed, and the barrier is unchanged; or a put after it failed
+abbrev pub PollFailed : {C : Type 0} → Applies C → (C → C) → BarrierState → BarrierState → Rank C → Rank C → PostState → PostState → CommFault → Type 0
+PollFailed apply start old new one me before after fault =
+    (HasFailed apply one me before after fault × (new ≡ old)) ⊎ PutFailed apply start old new one me before after fault
+
+-- its turn met the stop, and did nothing; nor did the poll
+abbrev pub PollHalted : {C : Type 0} → BarrierState → BarrierState → Rank C → Rank C → PostState → PostState → Type 0
+PollHalted old new one me before after = HasHalted one me before after × (new ≡ old)
 
 -- what no call changes of a barrier
 pub record IsSameBarrier (old new : BarrierState) : Type 0 where
@@ -244,10 +253,10 @@ pub record BarrierEnded {C : Type 0} (apply : Applies C) (start : C → C) (old 
   pub halts : after.halts ≡ before.halts
 
 -- A barrier that ended with a fault: after polls that waited, one failed. It met the stop, or failed itself.
-pub record BarrierFailed {C : Type 0} (apply : Applies C) (start : C → C) (old : BarrierState) (one me : Rank C) (before after : PostState) (fault : CommFault) : Type 0 where
+pub record BarrierFailed {C : Type 0} (apply : Applies C) (start : C → C) (old new : BarrierState) (one me : Rank C) (before after : PostState) (fault : CommFault) : Type 0 where
   pub barrier : BarrierState
   pub rank : Rank C
   pub post : PostState
   pub waited : HasWaited apply start old barrier one rank before post
-  pub halted : IfStopped fault (HasHalted rank me post after)
-  pub failed : UnlessStopped fault (PollFailed apply rank me post after fault)
+  pub halted : IfStopped fault (PollHalted barrier new rank me post after)
+  pub failed : UnlessStopped fault (PollFailed apply start barrier new rank me post after fault)

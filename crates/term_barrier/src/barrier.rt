@@ -12,10 +12,10 @@ use std::marker::Model;
 use world_core::Limits;
 use ygm_route::Layout;
 
-/// The barriers of one rank, one after another. A barrier ends once all letters that were sent before it have run, and
-/// all that handlers sent in turn. Ranks find that out by rounds, as Mattern's counting does: in a round each rank counts
-/// the letters that it sent and ran, and rank 0 adds the counts up. A barrier ends at the second of two rounds with the
-/// same sums, in each of which as many letters ran as were sent.
+/// The barriers of one rank, one after another. A barrier ends once all letters that ranks sent before they entered it have
+/// run, and all that handlers sent in turn. Ranks find that out by rounds, as in Mattern's counting: in a round each rank
+/// counts the letters that it sent and ran, and rank 0 adds the counts up. A barrier ends at the second of two successive
+/// rounds of it with the same sums, where as many letters ran as were sent.
 #[derive(Drop)]
 pub struct Barrier {
     pub(crate) alloc: Global,
@@ -71,7 +71,8 @@ impl Barrier {
         })
     }
 
-    /// Begins the next barrier. The rank is unchanged, and has sent all that it sends before this barrier.
+    /// Begins the next barrier. Letters that the rank holds may still be held: polls put them before the rank counts. The
+    /// rank sends no more by itself until it has left.
     pub fn enter<H: Handler>(&mut self, comm: &mut Comm<H>)
         requires going { comm.old.stopped ≡ false }
         requires outside { self.old.inside ≡ false }
@@ -89,8 +90,8 @@ impl Barrier {
         self.inside
     }
 
-    /// Does nothing, and states what is always true.
-    pub(crate) fn holds(&self)
+    /// Does nothing, and states what is always true: among others, that it counted no more rounds than it may.
+    pub fn holds(&self)
         ensures in_range { InRange self.now }
     {
         let _ = &self.alloc;

@@ -1,12 +1,12 @@
 //! A rank that is inside a barrier polls it until it has left.
-ghost use Rattle.std.specs.Prelude.{◌≡◌, ◌<◌, ℕ, Err, true, false, None, Some, is_err, IfOk, IfErr, IsTrue};
+ghost use Rattle.std.specs.Prelude.{◌≡◌, ◌<◌, ℕ, Err, true, false, None, Some, is_err, IfOk, IfErr, IsTrue, OnOk};
 ghost use Rattle.world_core.specs.Post.{PostState};
 ghost use Rattle.comm_rank.specs.declared.fault.CommFault.TheVariants.{NoMemory, Stopped};
 ghost use Rattle.comm_rank.specs.Fault.{IfStopped, UnlessStopped};
-ghost use Rattle.comm_rank.specs.Rank.{IsSameRank, Rank, Worked as RankWorked, local_of};
-ghost use Rattle.comm_rank.specs.Turns.{HasEnded, HasHalted, KeepsPost};
+ghost use Rattle.comm_rank.specs.Rank.{IsSameRank, Rank, Worked as RankWorked, held_letters, local_of};
+ghost use Rattle.comm_rank.specs.Turns.{HasEnded, KeepsPost};
 ghost use Rattle.term_barrier.specs.declared.polled.Waiting.TheVariants.{Worked, Link};
-ghost use Rattle.term_barrier.specs.Polls.{AfterTurn, BarrierEnded, BarrierFailed, IsAnswer, IsOtherReason, IsSameBarrier, LeavesNoneDue, PollEnded, PollFailed, Stands, either};
+ghost use Rattle.term_barrier.specs.Polls.{AfterTurn, BarrierEnded, BarrierFailed, IsAnswer, IsOtherReason, IsSameBarrier, PollEnded, PollFailed, PollHalted, PolledWaiting, PutsDue, Stands, either};
 
 use crate::{Barrier, Polled, Waiting};
 use comm_rank::{Comm, CommFault, Handler, Turn};
@@ -18,11 +18,14 @@ impl Barrier {
     /// barrier, and if not, why.
     ///
     /// A rank puts its Count of a round once it knows the round before, holds no letter and none waits to run. Rank 0 puts
-    /// the Totals of a round once it has the Counts of all ranks. Where it waits, no Count and no Total is due any more,
-    /// unless a put found a link full.
+    /// the Totals of a round once it has the Counts of all ranks. A rank that put a Count and took no letter for itself
+    /// since may be polled only while it holds no letter of its own, as where it sends only outside barriers.
     ///
-    /// It fails as `Comm::turn` does. Where it has no memory to put a Count or a Total, it returns `NoMemory` and the rank
-    /// halts.
+    /// All ranks enter the same barriers in the same order; otherwise a rank may wait for ever.
+    ///
+    /// It fails as `Comm::turn` does, and then the barrier is unchanged. Where it has no memory to put a Count or a Total, it
+    /// returns `NoMemory`; the control letters that it took stay taken in. After a fault the rank is stopped, and unless it
+    /// met the stop it has raised it.
     pub fn poll<H: Handler, P: Post>(
         &mut self,
         comm: &mut Comm<H>,
@@ -32,9 +35,8 @@ impl Barrier {
         requires stands { Stands H.apply H.start self.old comm.old (P.state post.old) }
         requires inside { self.old.inside ≡ true }
         ensures ended { IfOk result (PollEnded H.apply H.start self.old self.new comm.old comm.new (P.state post.old) (P.state post.new)) }
-        ensures none_due { IfOk result (LeavesNoneDue self.new comm.new (P.state post.old) (P.state post.new)) }
-        ensures halted { IfErr result (λ fault. IfStopped fault (HasHalted comm.old comm.new (P.state post.old) (P.state post.new))) }
-        ensures failed { IfErr result (λ fault. UnlessStopped fault (PollFailed H.apply comm.old comm.new (P.state post.old) (P.state post.new) fault)) }
+        ensures halted { IfErr result (λ fault. IfStopped fault (PollHalted self.old self.new comm.old comm.new (P.state post.old) (P.state post.new))) }
+        ensures failed { IfErr result (λ fault. UnlessStopped fault (PollFailed H.apply H.start self.old self.new comm.old comm.new (P.state post.old) (P.state post.new) fault)) }
         ensures sees_the_stop { (rank : ℕ) → IsTrue ((P.state post.old).serves rank) → (P.state post.old).raised rank ≡ true → result ≡ Err Stopped }
         ensures rank { RankWorked (record comm.old { stopped = is_err result }) comm.new }
         ensures post { KeepsPost comm.old (P.state post.old) (P.state post.new) }
@@ -61,7 +63,7 @@ impl Barrier {
         requires stands { Stands H.apply H.start self.old comm.old (P.state post.old) }
         requires outside { self.old.inside ≡ false }
         ensures ended { IfOk result (λ what. BarrierEnded H.apply H.start self.old self.new comm.old comm.new (P.state post.old) (P.state post.new) what.0 what.1) }
-        ensures failed { IfErr result (BarrierFailed H.apply H.start (record self.old { inside = true }) comm.old comm.new (P.state post.old) (P.state post.new)) }
+        ensures failed { IfErr result (BarrierFailed H.apply H.start (record self.old { inside = true }) self.new comm.old comm.new (P.state post.old) (P.state post.new)) }
         ensures sees_the_stop { (rank : ℕ) → IsTrue ((P.state post.old).serves rank) → (P.state post.old).raised rank ≡ true → result ≡ Err Stopped }
         ensures rank { RankWorked (record comm.old { stopped = is_err result }) comm.new }
         ensures post { KeepsPost comm.old (P.state post.old) (P.state post.new) }
@@ -90,8 +92,8 @@ impl Barrier {
         ensures stands { Stands H.apply H.start self.new comm.new (P.state post.new) }
         ensures answers { (one : Rank H) (before : PostState) → IsSameRank one comm.old → HasEnded H.apply H.start one comm.old before (P.state post.old) turn →
             IfOk result (IsAnswer self.old self.new (local_of comm.new ((P.state post.new).log comm.new.here)) before (P.state post.new) turn) }
-        ensures none_due { IfOk result (LeavesNoneDue self.new comm.new (P.state post.old) (P.state post.new)) }
-        ensures no_memory { IfErr result (λ fault. fault ≡ NoMemory) }
+        ensures due { OnOk result (self.new.inside ≡ true → PutsDue (held_letters comm.new) self.new (P.state post.old) (P.state post.new)) }
+        ensures no_memory { IfErr result (λ fault. (fault ≡ NoMemory) × PolledWaiting self.old self.new) }
         ensures barrier { IsSameBarrier self.old self.new }
     {
         self.holds();

@@ -1,9 +1,9 @@
 //! What a poll returns.
 
-/// What a barrier came to, as a poll saw it. Barriers and rounds count from 0.
+/// What a poll came to. Barriers and rounds count from 0.
 #[derive(Clone, Copy, Debug, PartialEq, Eq)]
 pub enum Polled {
-    /// The rank has left its barrier: it took the Total of the round that ends it.
+    /// The rank took the Total of this round, which ends this barrier. It is outside now.
     Left { barrier: u64, round: u64 },
     /// It is still inside.
     Waiting(Waiting),
@@ -14,12 +14,12 @@ pub enum Polled {
 pub enum Waiting {
     /// The poll took this many batches.
     Worked { took: u32 },
-    /// A put to this rank found the link full.
+    /// No batch was taken, and a put to this rank found the link full.
     Link { to: u32 },
-    /// At rank 0: the Count of this round of that rank isn't there, the lowest of which this holds.
+    /// At rank 0: it put its own Count of this round, and hasn't taken that of this rank, the lowest such.
     Count { rank: u32, round: u64 },
-    /// The Total of this round isn't there, which the rank has counted.
+    /// The rank put its Count of this round, and hasn't taken the Total. Rank 0 has put that Total to all ranks.
     Total { round: u64 },
-    /// The rank counted as many rounds as it may, which is this number. It waits for ever.
+    /// The rank put this many Counts, all that it may, and took the last Total. It waits for ever.
     Spent { round: u64 },
 }

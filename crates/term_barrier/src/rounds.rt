@@ -1,5 +1,5 @@
 //! Counts and Totals: what a rank puts for a round.
-ghost use Rattle.std.specs.Prelude.{◌≡◌, ◌+◌, ◌<◌, ◌≤◌, ℕ, Ok, Some, true, false, None, [], ◌∷◌, IfOk, IfErr, IfSome, IsNone, IsTrue, OnErr};
+ghost use Rattle.std.specs.Prelude.{◌≡◌, ◌⊎◌, ◌+◌, ◌<◌, ◌≤◌, ℕ, Ok, Some, true, false, None, [], ◌∷◌, IfOk, IfErr, IfSome, IsNone, IsTrue, OnErr};
 ghost use Rattle.msg_codec.specs.Control.{letter_of_control};
 ghost use Rattle.world_core.specs.Limits.{most_arrived};
 ghost use Rattle.world_core.specs.Post.{PutKeeps, SameFulls, local_at};
@@ -8,7 +8,7 @@ ghost use Rattle.world_core.specs.Rules.Deed.{Puts};
 ghost use Rattle.comm_rank.specs.declared.fault.CommFault.TheVariants.{NoMemory};
 ghost use Rattle.comm_rank.specs.Rank.{IsIdle, held_letters};
 ghost use Rattle.term_barrier.specs.Barriers.{HasHeardAll, HasPutTotals, HasTotalsDue, destination, IsMissing, IsNextTotal, IsTotalDue, heard_of, round_sums, sums_heard_at, with_total_put};
-ghost use Rattle.term_barrier.specs.Polls.{FoundFull, HasPutControls, PutsLetter, Stands};
+ghost use Rattle.term_barrier.specs.Polls.{FoundFull, HasPutControls, HasPutDue, PutsLetter, Stands};
 
 use crate::Barrier;
 use crate::heard::RoundSums;
@@ -67,8 +67,8 @@ impl Barrier {
         requires all_handed { comm.now.controls ≡ [] }
         ensures controls { HasPutControls (held_letters comm.now) self.old self.new (P.state post.old) (P.state post.new) }
         ensures stands { Stands H.apply H.start self.new comm.now (P.state post.new) }
-        ensures full { IfOk result (λ full. FoundFull full (P.state post.old) (P.state post.new)) }
-        ensures put { result ≡ Ok None → IsIdle comm.now → self.new.counted < self.new.rounds → self.new.known < self.new.counted }
+        ensures full { IfOk result (λ full. FoundFull self.old.layout.ranks full (P.state post.old) (P.state post.new)) }
+        ensures put { IfOk result (λ full. IsIdle comm.now → self.new.counted < self.new.rounds → (self.new.known < self.new.counted) ⊎ (full ≡ Some 0)) }
         ensures no_memory { IfErr result (λ fault. fault ≡ NoMemory) }
     {
         if !self.has_count_due(comm) {
@@ -158,8 +158,8 @@ impl Barrier {
         requires due { IsTotalDue self.old to sums }
         ensures controls { HasPutControls (held_letters comm.now) self.old self.new (P.state post.old) (P.state post.new) }
         ensures stands { Stands H.apply H.start self.new comm.now (P.state post.new) }
-        ensures full { result ≡ Ok false → (self.new ≡ self.old) × FoundFull (Some to) (P.state post.old) (P.state post.new) }
-        ensures put { result ≡ Ok true → (self.new ≡ with_total_put self.old to) × FoundFull None (P.state post.old) (P.state post.new) }
+        ensures full { result ≡ Ok false → (self.new ≡ self.old) × FoundFull self.old.layout.ranks (Some to) (P.state post.old) (P.state post.new) }
+        ensures put { result ≡ Ok true → (self.new ≡ with_total_put self.old to) × SameFulls (P.state post.old) (P.state post.new) }
         ensures unchanged { OnErr result (self.new ≡ self.old) }
         ensures no_memory { IfErr result (λ fault. fault ≡ NoMemory) }
     {
@@ -204,7 +204,7 @@ impl Barrier {
         ensures controls { HasPutControls (held_letters comm.now) self.old self.new (P.state post.old) (P.state post.new) }
         ensures stands { Stands H.apply H.start self.new comm.now (P.state post.new) }
         ensures counted { self.new.counted ≡ self.old.counted }
-        ensures full { IfOk result (λ full. FoundFull full (P.state post.old) (P.state post.new)) }
+        ensures full { IfOk result (λ full. FoundFull self.old.layout.ranks full (P.state post.old) (P.state post.new)) }
         ensures put { result ≡ Ok None → self.new.over ≡ self.old.over + 1 }
         ensures no_memory { IfErr result (λ fault. fault ≡ NoMemory) }
     {
@@ -230,7 +230,7 @@ impl Barrier {
         ensures controls { HasPutControls (held_letters comm.now) self.old self.new (P.state post.old) (P.state post.new) }
         ensures stands { Stands H.apply H.start self.new comm.now (P.state post.new) }
         ensures counted { self.new.counted ≡ self.old.counted }
-        ensures full { IfOk result (λ full. FoundFull full (P.state post.old) (P.state post.new)) }
+        ensures full { IfOk result (λ full. FoundFull self.old.layout.ranks full (P.state post.old) (P.state post.new)) }
         ensures put { result ≡ Ok None → self.new.known < self.new.counted → HasPutTotals self.new }
         ensures no_memory { IfErr result (λ fault. fault ≡ NoMemory) }
     {
@@ -253,9 +253,7 @@ impl Barrier {
         requires all_handed { comm.now.controls ≡ [] }
         ensures controls { HasPutControls (held_letters comm.now) self.old self.new (P.state post.old) (P.state post.new) }
         ensures stands { Stands H.apply H.start self.new comm.now (P.state post.new) }
-        ensures full { IfOk result (λ full. FoundFull full (P.state post.old) (P.state post.new)) }
-        ensures count_put { result ≡ Ok None → IsIdle comm.now → self.new.counted < self.new.rounds → self.new.known < self.new.counted }
-        ensures totals_put { result ≡ Ok None → self.new.known < self.new.counted → HasPutTotals self.new }
+        ensures due { IfOk result (λ full. HasPutDue (held_letters comm.now) self.new full (P.state post.old) (P.state post.new)) }
         ensures no_memory { IfErr result (λ fault. fault ≡ NoMemory) }
     {
         let full = self.put_count(comm, post)?;

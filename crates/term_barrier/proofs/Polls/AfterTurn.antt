@@ -1,21 +1,22 @@
 -- What a poll does after its turn.
-use Rattle.std.proofs.Common.{◌≡◌, ℕ, ◌-◌, ◌<◌, ◌≤◌, ◌⊎◌, inl, inr, false, Option, None, Some, List, [], ◌++◌, refl, sym, ap, ◌∙◌, subst, append-nil, arith}
+use Rattle.std.proofs.Common.{◌≡◌, ℕ, ◌-◌, ◌<◌, ◌≤◌, inl, inr, true, false, is_some, Option, None, Some, Result, Ok, Err, IfOk, List, [], ◌++◌, refl, sym, ap, ◌∙◌, subst, append-nil, arith}
 use Rattle.std.specs.List.{filter}
+use Rattle.std.proofs.lemmas.Bool.{false≢true}
+use Rattle.std.proofs.lemmas.Option.{none-some}
 use Rattle.msg_codec.specs.Control.{is_control}
 use Rattle.msg_codec.specs.declared.letter.Letter.{Letter}
 use Rattle.world_core.specs.declared.entry.Entry.{Entry}
 use Rattle.world_core.specs.Log.{letters_taken}
-use Rattle.world_core.specs.Post.{CountsNeverFall, PostState, local_at}
+use Rattle.world_core.specs.Post.{PostState, SameFulls, local_at}
 use Rattle.world_core.specs.Rules.{IsHonest}
+use Rattle.comm_rank.specs.declared.fault.CommFault.{CommFault}
 use Rattle.comm_rank.specs.Agrees.{Agrees}
 use Rattle.comm_rank.specs.Fold.{Applies}
-use Rattle.comm_rank.specs.Rank.{IsIdle, Rank, held_letters, local_of}
+use Rattle.comm_rank.specs.Rank.{Rank, halted, held_letters, local_of}
 use Rattle.comm_rank.specs.Turns.{PutsKeep}
 use Rattle.comm_rank.proofs.Moves.OnePut.{keeps_none}
-use Rattle.term_barrier.specs.declared.polled.Polled.{Polled}
-use Rattle.term_barrier.specs.declared.polled.Polled.TheVariants.{Left, Waiting as Waits}
 use Rattle.term_barrier.specs.Barriers.{BarrierAgrees, BarrierState, HasPutTotals, HasRoom, InRange, with_letters}
-use Rattle.term_barrier.specs.Polls.{AfterTurn, FoundFull, FoundSomeFull, HasNoneDue, HasPutControls, IsSameBarrier, LeavesNoneDue, PolledLeft, Stands}
+use Rattle.term_barrier.specs.Polls.{AfterTurn, FoundFull, HasPutControls, HasPutDue, IsSameBarrier, PolledLeft, PolledWaiting, PutsDue, Stands}
 use Rattle.term_barrier.proofs.Barriers.Handed.{agrees_handed_all, with_letters_keeps}
 use Rattle.term_barrier.proofs.Barriers.Leaving.{LeftOnce, left_now, left_once, left_outside}
 use Rattle.term_barrier.proofs.Barriers.Room.{room}
@@ -132,19 +133,93 @@ same_put held barrier told new before after same put = record {
   rounds = ap (λ (b : BarrierState). b.rounds) put.barrier ∙ same.rounds;
 }
 
--- ---- none is due any more
+-- ---- what was due
 
-pub none_due : {C : Type 0} (barrier : BarrierState) (me : Rank C) (before after : PostState) (full : Option ℕ) → FoundFull full before after →
-    (full ≡ None → IsIdle me → barrier.counted < barrier.rounds → barrier.known < barrier.counted) →
-    (full ≡ None → barrier.known < barrier.counted → HasPutTotals barrier) → FoundSomeFull before after ⊎ HasNoneDue barrier me
-none_due barrier me before after None found count totals = inr (record { count = count refl; totals = totals refl })
-none_due barrier me before after (Some to) found count totals = inl (record { to = to; full = found })
+pub puts_due : (held : List Letter) (barrier : BarrierState) (full : Option ℕ) (before after : PostState) → HasPutDue held barrier full before after → PutsDue held barrier before after
+puts_due held barrier None before after due = record {
+  count = λ none more. elim (due.count none more) [ inl put ↦ inl put | inr some ↦ absurd (none-some 0 some) ];
+  totals = λ first all more. elim (due.totals first all more) [ inl put ↦ inl put | inr some ↦ absurd (false≢true some) ];
+}
+puts_due held barrier (Some to) before after due = record {
+  count = λ none more. elim (due.count none more) [
+    | inl put ↦ inl put
+    | inr some ↦ inr (let found : FoundFull barrier.layout.ranks (Some 0) before after = subst (λ f. FoundFull barrier.layout.ranks f before after) some due.found in found.1)
+  ];
+  totals = λ first all more. elim (due.totals first all more) [ inl put ↦ inl put | inr some ↦ inr (to, due.found.0, due.found.1) ];
+}
 
--- a turn before leaves none due either
-pub none_due_later : {C : Type 0} (barrier : BarrierState) (me : Rank C) (before looked after : PostState) → CountsNeverFall before looked → (answer : Polled) →
-    LeavesNoneDue barrier me looked after answer → LeavesNoneDue barrier me before after answer
-none_due_later barrier me before looked after counts (Left number round) due = due
-none_due_later barrier me before looked after counts (Waits why) due = elim due [
-  | inl some ↦ inl (record { to = some.to; full = omega (arith, some.full, counts.fulls some.to) })
-  | inr none ↦ inr none
-]
+pub due_since : (held : List Letter) (barrier : BarrierState) (before looked after : PostState) → ((rank : ℕ) → before.fulls rank ≤ looked.fulls rank) →
+    PutsDue held barrier looked after → PutsDue held barrier before after
+due_since held barrier before looked after more due = record {
+  count = λ none few. elim (due.count none few) [ inl put ↦ inl put | inr rose ↦ inr (omega (arith, rose, more 0)) ];
+  totals = λ first all some. elim (due.totals first all some) [ inl put ↦ inl put | inr full ↦ inr (full.0, full.1, omega (arith, full.2, more full.0)) ];
+}
+
+-- where it waited, and where a put failed
+pub polled_waiting : (held : List Letter) (barrier told new : BarrierState) (before after : PostState) → told.left ≡ barrier.left → told.inside ≡ true → HasPutControls held told new before after → PolledWaiting barrier new
+polled_waiting held barrier told new before after left inside put = record {
+  same_left = ap (λ (b : BarrierState). b.left) put.barrier ∙ left;
+  inside = ap (λ (b : BarrierState). b.inside) put.barrier ∙ inside;
+}
+
+stands_rank : {C : Type 0} (apply : Applies C) (start : C → C) (me : Rank C) (log : List Entry) → Agrees apply start me log → Agrees apply start (halted me) log
+stands_rank apply start me log agrees = record {
+  nothing_waits = agrees.nothing_waits;
+  forwards = agrees.forwards;
+  sent_count = agrees.sent_count;
+  run_count = agrees.run_count;
+  contents = agrees.contents;
+  given_is_sent = agrees.given_is_sent;
+  modest = agrees.modest;
+  controls = agrees.controls;
+  served = agrees.served;
+}
+
+-- a rank that halts still stands with its barrier
+pub stands_halted : {C : Type 0} (apply : Applies C) (start : C → C) (barrier : BarrierState) (me : Rank C) (post : PostState) → Stands apply start barrier me post → Stands apply start barrier (halted me) post
+stands_halted apply start barrier me post stands = record {
+  belongs = record {
+    serves = stands.belongs.serves;
+    layout = stands.belongs.layout;
+    scheme = stands.belongs.scheme;
+    agrees = stands_rank apply start me (post.log me.here) stands.belongs.agrees;
+  };
+  may_turn = stands.may_turn;
+  agrees = stands.agrees;
+}
+
+-- ---- a Count, and then Totals
+
+found_since : (ranks : ℕ) (full : Option ℕ) (before mid after : PostState) → SameFulls before mid → FoundFull ranks full mid after → FoundFull ranks full before after
+found_since ranks None before mid after same found = λ rank. found rank ∙ same rank
+found_since ranks (Some to) before mid after same found = (found.0, omega (arith, found.1, same to))
+
+module _ (held : List Letter) (counted now : BarrierState) (before mid after : PostState) (same : SameFulls before mid)
+    (put : HasPutControls held counted now mid after) (counted_once : now.counted ≡ counted.counted)
+    (count : held ≡ [] → counted.counted < counted.rounds → counted.known < counted.counted) where
+  ranks_are : counted.layout.ranks ≡ now.layout.ranks
+  ranks_are = sym (ap (λ (b : BarrierState). b.layout.ranks) put.barrier)
+
+  count_now : held ≡ [] → now.counted < now.rounds → now.known < now.counted
+  count_now none few =
+      let rounds : now.rounds ≡ counted.rounds = ap (λ (b : BarrierState). b.rounds) put.barrier in
+      let known : now.known ≡ counted.known = ap (λ (b : BarrierState). b.known) put.barrier in
+      omega (arith, known, counted_once, count none (omega (arith, few, rounds, counted_once)))
+
+  pub due_after : (result : Result (Option ℕ) CommFault) → IfOk result (λ full. FoundFull counted.layout.ranks full mid after) →
+      (result ≡ Ok None → now.known < now.counted → HasPutTotals now) → IfOk result (λ full. HasPutDue held now full before after)
+  due_after (Ok None) found totals = record {
+    found = λ rank. found rank ∙ same rank;
+    count = λ none few. inl (count_now none few);
+    totals = λ first all more. elim (totals refl more first) [ inl put ↦ inl put | inr none ↦ absurd (none all) ];
+  }
+  due_after (Ok (Some to)) found totals = record {
+    found = found_since now.layout.ranks (Some to) before mid after same (omega (arith, found.0, ranks_are), found.1);
+    count = λ none few. inl (count_now none few);
+    totals = λ first all more. inr refl;
+  }
+  due_after (Err fault) found totals = tt
+
+pub none_from_false : {X : Type 0} (option : Option X) → is_some option ≡ false → option ≡ None
+none_from_false None is = refl
+none_from_false (Some x) is = absurd (false≢true (sym is))

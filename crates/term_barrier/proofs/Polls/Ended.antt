@@ -1,10 +1,10 @@
 -- What a whole poll does: a turn, and what comes after it.
-use Rattle.std.proofs.Common.{◌≡◌, ℕ, ◌<◌, inr, true, false, List, [], ◌∷◌, ◌++◌, refl, sym, ap, ◌∙◌, subst, arith}
+use Rattle.std.proofs.Common.{◌≡◌, ℕ, ◌<◌, inr, true, false, Result, Ok, Err, IfOk, OnOk, List, [], ◌∷◌, ◌++◌, refl, sym, ap, ◌∙◌, subst, arith}
 use Rattle.std.specs.List.{AllByRecursion}
 use Rattle.world_core.specs.declared.entry.Entry.{Entry}
 use Rattle.world_core.specs.declared.entry.Entry.TheVariants.{Put, Took}
 use Rattle.world_core.specs.Log.{IsPut}
-use Rattle.world_core.specs.Post.{PostState, RaiseKeeps, StopRaised, local_at}
+use Rattle.world_core.specs.Post.{PostState, RaiseKeeps, SamePost, StopRaised, local_at}
 use Rattle.world_core.specs.Rules.{IsHonest}
 use Rattle.comm_rank.specs.declared.fault.CommFault.{CommFault}
 use Rattle.comm_rank.specs.declared.fault.CommFault.TheVariants.{NoMemory}
@@ -18,8 +18,10 @@ use Rattle.comm_rank.proofs.Rank.Same.{same_rank}
 use Rattle.comm_rank.proofs.Turns.Outcomes.{looked_then}
 use Rattle.term_barrier.specs.declared.polled.Polled.{Polled}
 use Rattle.term_barrier.specs.Barriers.{BarrierAgrees, BarrierState}
-use Rattle.term_barrier.specs.Polls.{AfterTurn, GainedControls, HasPolled, IsAnswer, PollEnded, PollFailed, PutsControl, Stands}
+use Rattle.term_barrier.specs.Polls.{AfterTurn, GainedControls, HasPolled, IsAnswer, PollEnded, PollFailed, PolledWaiting, PutsControl, PutsDue, Stands}
 use Rattle.term_barrier.proofs.Barriers.Agrees.{agrees_turned}
+use Rattle.term_barrier.proofs.Polls.AfterTurn.{due_since, stands_halted}
+use Rattle.term_barrier.proofs.Puts.Moved.{stands_still}
 use Rattle.term_barrier.proofs.Waited.Kept.{keeps_post_then}
 
 pub same_going : {C : Type 0} (one mid : Rank C) → Worked (record one { stopped = false }) mid → IsSameRank one mid
@@ -74,15 +76,17 @@ module _ {C : Type 0} (apply : Applies C) (start : C → C) (barrier : BarrierSt
       most = ap (λ (r : Rank C). r.most) then.handed_over ∙ same.most;
     }
 
-    pub poll_ended : (new : BarrierState) (answer : Polled) → Stands apply start new me after →
+    pub poll_ended : (new : BarrierState) (answer : Polled) → KeepsPost one before looked → Stands apply start new me after →
+        (new.inside ≡ true → PutsDue (held_letters me) new looked after) →
         IsAnswer barrier new (local_of me (after.log me.here)) before after turn answer → PollEnded apply start barrier new one me before after answer
-    poll_ended new answer stands answers = record {
+    poll_ended new answer first stands due answers = record {
       turn = turn;
       polled = has_polled;
       same_rank = same_after;
       stands = stands;
       answers = subst (λ h. IsAnswer barrier new (local_of me (after.log h)) before after turn answer)
           same_after.here answers;
+      puts_due = λ inside. due_since (held_letters me) new before looked after first.counts.fulls (due inside);
       takes_from_each = looked_at_each;
       stops = λ rank. then.keeps.stops rank ∙ ended.stops rank;
       halts = then.keeps.halts ∙ ended.halts;
@@ -132,9 +136,9 @@ module _ {C : Type 0} (apply : Applies C) (start : C → C) (barrier : BarrierSt
       (keeps_post_then one mid before looked after same first (keeps_after_turn apply start barrier one mid before looked turn same ended me after then))
       (keeps_halted me after ended_at raised keeps)
 
-  pub put_failed : (fault : CommFault) → fault ≡ NoMemory → me.stopped ≡ false → (now : Rank C) → now ≡ halted me →
-      UnlessStopped fault (PollFailed apply one now before ended_at fault)
-  put_failed fault no_memory going now now_is =
+  pub put_failed : (new : BarrierState) (fault : CommFault) → fault ≡ NoMemory → PolledWaiting barrier new → Stands apply start new me after →
+      me.stopped ≡ false → (now : Rank C) → now ≡ halted me → UnlessStopped fault (PollFailed apply start barrier new one now before ended_at fault)
+  put_failed new fault no_memory waits stands going now now_is =
       let log : ended_at.log one.here ≡ after.log one.here = subst (λ h. ended_at.log h ≡ after.log h) me_here keeps.log in
       let polled = has_polled apply start barrier one mid before looked turn same ended me after then in
       let back : me ≡ record now { stopped = false } = sym (ap (λ (r : Rank C). record r { stopped = false }) now_is ∙ ap (λ b. record me { stopped = b }) (sym going)) in
@@ -142,7 +146,16 @@ module _ {C : Type 0} (apply : Applies C) (start : C → C) (barrier : BarrierSt
         turn = turn;
         polled = subst (λ (r : Rank C). HasPolled apply one r (before.log one.here) (ended_at.log one.here) turn) back
             (subst (λ entries. HasPolled apply one me (before.log one.here) entries turn) (sym log) polled);
+        stands = subst (λ (r : Rank C). Stands apply start new r ended_at) (sym now_is) (stands_halted apply start new me ended_at
+            (stands_still apply start new me after ended_at stands (subst (λ h. SamePost h after ended_at) (sym stands.agrees.here) keeps.same)
+            (subst (λ h. ended_at.log h ≡ after.log h) (sym stands.agrees.here) keeps.log)));
+        waits = waits;
         no_memory = refl;
         raises_the_stop = subst (λ h. ended_at.raised h ≡ true) me_here raised.raised;
         halts = keeps.halts ∙ then.keeps.halts ∙ ended.halts;
       }))
+
+-- what holds of the answer, and what holds wherever there is one
+pub with_due : {T E : Type 0} (result : Result T E) (P : T → Type 0) (Q : Type 0) → IfOk result P → OnOk result Q → IfOk result (λ answer. P answer × Q)
+with_due (Ok answer) P Q first second = (first, second)
+with_due (Err fault) P Q first second = tt

@@ -1,8 +1,8 @@
 -- Why a poll waits.
 use Rattle.std.proofs.Common.{◌≡◌, ℕ, pred, ◌<◌, inl, inr, true, is_some, Option, None, Some, [], ◌++◌, append-nil, length, filter, refl, sym, ap, ◌∙◌, subst, arith}
-use Rattle.std.proofs.lemmas.Bool.{cases_lt}
+use Rattle.std.proofs.lemmas.Bool.{cases_lt, false≢true}
 use Rattle.std.proofs.lemmas.List.{nil_from_length}
-use Rattle.std.proofs.lemmas.Option.{slice_get-get_or, slice_get_past}
+use Rattle.std.proofs.lemmas.Option.{none-some, slice_get-get_or, slice_get_past}
 use Rattle.world_core.specs.Counts.{is_total_to, total_taken}
 use Rattle.world_core.specs.Local.{Local}
 use Rattle.world_core.specs.Log.{batches_taken}
@@ -11,13 +11,13 @@ use Rattle.world_core.specs.Post.{PostState, SameFulls}
 use Rattle.world_core.specs.Rising.{Rose}
 use Rattle.comm_rank.specs.declared.turn.Turn.{Turn}
 use Rattle.comm_rank.specs.Fold.{Applies}
-use Rattle.comm_rank.specs.Rank.{IsIdle, IsSameRank, Rank, local_of}
-use Rattle.comm_rank.specs.Turns.{FirstFull, HasEnded, PutsKeep}
+use Rattle.comm_rank.specs.Rank.{IsIdle, IsSameRank, Rank, held_letters, local_of}
+use Rattle.comm_rank.specs.Turns.{FirstFull, HasEnded, IsFirstFull, PutsKeep}
 use Rattle.comm_rank.proofs.Agrees.AfterPuts.{same_batches_taken}
 use Rattle.term_barrier.specs.declared.polled.Waiting.{Waiting}
 use Rattle.term_barrier.specs.declared.polled.Waiting.TheVariants.{Worked, Link, Count, Total, Spent}
-use Rattle.term_barrier.specs.Barriers.{BarrierAgrees, BarrierState, HasPutTotals, InRange, IsMissing, control_letters}
-use Rattle.term_barrier.specs.Polls.{FoundFull, IsOtherReason, IsReason, Stands, either}
+use Rattle.term_barrier.specs.Barriers.{BarrierAgrees, BarrierState, InRange, IsMissing, control_letters}
+use Rattle.term_barrier.specs.Polls.{FoundFull, HasPutDue, IsOtherReason, IsReason, Stands, either}
 use Rattle.term_barrier.proofs.Barriers.Knows.{known_at, no_letter, total_at}
 use Rattle.term_barrier.proofs.Barriers.Rounds.{known_is, not_taken, taken}
 
@@ -52,10 +52,11 @@ module _ {C : Type 0} (apply : Applies C) (start : C → C) (one mid : Rank C) (
     | inr none ↦ subst (Rose (before.misses from)) (sym (keeps.misses from)) none.0
   ]
 
+  first_full : (to : ℕ) → turn.full ≡ Some to → IsFirstFull one.layout.ranks to mid.held before looked
+  first_full to is = subst (FirstFull one.layout.ranks mid.held before looked) is ended.full
+
   full_link : (to : ℕ) → turn.full ≡ Some to → Rose (before.fulls to) (after.fulls to)
-  full_link to is =
-      let found : FirstFull one.layout.ranks mid.held before looked (Some to) = subst (FirstFull one.layout.ranks mid.held before looked) is ended.full in
-      omega (arith, found.rose, keeps.counts.fulls to)
+  full_link to is = omega (arith, (first_full to is).rose, keeps.counts.fulls to)
 
   no_full_link : turn.full ≡ None → SameFulls before looked
   no_full_link is = subst (FirstFull one.layout.ranks mid.held before looked) is ended.full
@@ -63,9 +64,7 @@ module _ {C : Type 0} (apply : Applies C) (start : C → C) (one mid : Rank C) (
   -- ---- the reason
 
   module _ (barrier : BarrierState) (me : Rank C) (full : Option ℕ) (why : Waiting) (range : InRange barrier) (all_handed : me.controls ≡ [])
-      (mid_is : me ≡ record mid { controls = [] }) (stands : Stands apply start barrier me after) (found : FoundFull full looked after)
-      (counts_put : full ≡ None → IsIdle me → barrier.counted < barrier.rounds → barrier.known < barrier.counted)
-      (totals_put : full ≡ None → barrier.known < barrier.counted → HasPutTotals barrier) where
+      (mid_is : me ≡ record mid { controls = [] }) (stands : Stands apply start barrier me after) (due : HasPutDue (held_letters me) barrier full looked after) where
     abbrev here : Local
     here = local_of me (after.log me.here)
 
@@ -83,7 +82,7 @@ module _ {C : Type 0} (apply : Applies C) (start : C → C) (one mid : Rank C) (
 
     still : turn.full ≡ None → full ≡ None → SameFulls before after
     still first later =
-        let none : SameFulls looked after = subst (λ f. FoundFull f looked after) later found in
+        let none : SameFulls looked after = subst (λ f. FoundFull barrier.layout.ranks f looked after) later due.found in
         λ rank. none rank ∙ no_full_link first rank
 
     idle : turn.full ≡ None → IsIdle me
@@ -109,7 +108,7 @@ module _ {C : Type 0} (apply : Applies C) (start : C → C) (one mid : Rank C) (
         let past : barrier.here ≡ 0 → barrier.known < barrier.over = λ at_first.
         elim (other.2 at_first) [
           | inl more ↦ more
-          | inr all ↦ elim (totals_put later other.1 at_first) [ inl more ↦ more | inr none ↦ absurd (none all) ]
+          | inr all ↦ elim (due.totals at_first all other.1) [ inl more ↦ more | inr some ↦ absurd (false≢true (sym (ap is_some later) ∙ some)) ]
         ] in (
           (took, still first later),
           record {
@@ -123,7 +122,10 @@ module _ {C : Type 0} (apply : Applies C) (start : C → C) (one mid : Rank C) (
         )
     why_other took first later (Spent round) other =
         let spent : barrier.counted ≡ barrier.rounds = elim (cases_lt barrier.counted barrier.rounds) [
-          | inl fewer ↦ absurd (omega (arith, counts_put later (idle first) fewer, other.1))
+          | inl fewer ↦ elim (due.count (idle first).0 fewer) [
+            | inl more ↦ absurd (omega (arith, more, other.1))
+            | inr some ↦ absurd (none-some 0 (sym later ∙ some))
+          ]
           | inr all ↦ omega (arith, all, range.counted_few)
         ] in (
           (took, still first later),
@@ -144,10 +146,12 @@ module _ {C : Type 0} (apply : Applies C) (start : C → C) (one mid : Rank C) (
         by_full : turn.took ≡ 0 → (first later : Option ℕ) → turn.full ≡ first → full ≡ later → IsReason barrier here before after turn why
         by_full took (Some to) later is is' =
             let full_there : either turn.full full ≡ Some to = ap (λ f. either f full) is in
-            subst (IsReason barrier here before after turn) (sym (link to took full_there)) (took, full_link to is)
+            let within : to < me.layout.ranks = omega (arith, (first_full to is).within, all_ranks) in
+            subst (IsReason barrier here before after turn) (sym (link to took full_there)) (took, (within, full_link to is))
         by_full took None (Some to) is is' =
             let full_there : either turn.full full ≡ Some to = ap (λ f. either f full) is ∙ is' in
-            let rose : Rose (looked.fulls to) (after.fulls to) = subst (λ f. FoundFull f looked after) is' found in
+            let found : FoundFull barrier.layout.ranks (Some to) looked after = subst (λ f. FoundFull barrier.layout.ranks f looked after) is' due.found in
+            let within : to < me.layout.ranks = omega (arith, found.0, ranks) in
             subst (IsReason barrier here before after turn) (sym (link to took full_there))
-            (took, subst (λ n. Rose n (after.fulls to)) (no_full_link is to) rose)
+            (took, (within, subst (λ n. Rose n (after.fulls to)) (no_full_link is to) found.1))
         by_full took None None is is' = why_other took is is' why (other took (ap (λ f. either f full) is ∙ is'))

@@ -1,10 +1,13 @@
-use Rattle.std.proofs.Common.{◌≡◌, ◌<◌, ◌≤◌, ◌-◌, true, false, Ok, [], ap, ◌∙◌, sym, subst, arith}
+use Rattle.std.proofs.Common.{rules, ◌≡◌, ◌<◌, ◌≤◌, ◌-◌, true, false, IfErr, [], ap, ◌∙◌, sym, subst, arith}
+use Rattle.std.proofs.lemmas.Bool.{false≢true}
+use Rattle.std.proofs.lemmas.Result.{IfErr-weaker}
+use Rattle.comm_rank.specs.declared.fault.CommFault.TheVariants.{NoMemory}
 use Rattle.comm_rank.specs.Turns.{PutsKeep}
 use Rattle.comm_rank.specs.Rank.{Rank, held_letters, local_of}
 use Rattle.term_barrier.specs.contracts.barrier.Barrier.{the_view}
 use Rattle.term_barrier.specs.Barriers.{BarrierState, with_letters}
 use Rattle.term_barrier.specs.Polls.{IsSameBarrier, PolledLeft, Stands}
-use Rattle.term_barrier.proofs.Polls.AfterTurn.{has_room, inside_still, none_due, polled_left, same_handed, same_left, same_put, stands_handed, stands_outside}
+use Rattle.term_barrier.proofs.Polls.AfterTurn.{has_room, inside_still, polled_left, polled_waiting, puts_due, same_handed, same_left, same_put, stands_handed, stands_outside}
 use Rattle.term_barrier.proofs.Polls.Reasons.{reason}
 use Rattle.term_barrier.proofs.barrier.Barrier.after_turn.Goals as goal
 
@@ -81,7 +84,6 @@ returns-clause-answers g c = λ one before same ended.
     let put = c.put_controls-put.ensures.controls in
     let here : told.here ≡ me.here = ap (λ (b : BarrierState). b.here) c.hear_all.ensures.heard ∙ (same_handed barrier me.controls).here ∙ c.requires.stands.agrees.here in
     let all_handed : rank.controls ≡ [] = ap (λ (r : Rank g.row.H.Denot). r.controls) c.hear_all.ensures.handed_over in
-    let ok : c.put_controls-put.result ≡ Ok c.in_ok-full.full = c.in_ok-full.was in
     let within : told.left ≤ barrier.left =
     omega (arith, c.if-self-left.false, ap (λ (b : BarrierState). b.left) c.self.view_is, ap (λ (b : BarrierState). b.left) c.self-2.view_is) in
     let heard_left : told.left ≡ barrier.left =
@@ -94,8 +96,7 @@ returns-clause-answers g c = λ one before same ended.
       record { same_left = ap (λ (b : BarrierState). b.left) put.barrier ∙ heard_left; inside = ap (λ (b : BarrierState). b.inside) put.barrier ∙ inside },
       reason g.H.Handler.apply g.H.Handler.start one me before post after c.args.turn same ended
           (subst (λ h. PutsKeep h post after) here put.keeps) new rank c.in_ok-full.full c.why.result c.holds-3.ensures.in_range all_handed
-          c.hear_all.ensures.handed_over c.put_controls-put.ensures.stands c.in_ok-full.ensures.full
-          (λ none. c.put_controls-put.ensures.count_put (ok ∙ ap Ok none)) (λ none. c.put_controls-put.ensures.totals_put (ok ∙ ap Ok none))
+          c.hear_all.ensures.handed_over c.put_controls-put.ensures.stands c.in_ok-full.ensures.due
           c.why.ensures.worked c.why.ensures.link c.why.ensures.other,
     )
 
@@ -105,8 +106,31 @@ returns-clause-barrier g c =
     same_put (held_letters c.hear_all.new.comm) barrier c.hear_all.new.self c.put_controls-put.new.self (g.P.Post.state c.args.post.now) (g.P.Post.state c.put_controls-put.new.post)
     (subst (IsSameBarrier barrier) (sym c.hear_all.ensures.heard) (same_handed barrier c.args.comm.now.controls)) c.put_controls-put.ensures.controls
 
-pub returns-clause-none_due : goal.returns-clause-none_due
-returns-clause-none_due g c =
-    let ok : c.put_controls-put.result ≡ Ok c.in_ok-full.full = c.in_ok-full.was in
-    none_due c.put_controls-put.new.self c.hear_all.new.comm (g.P.Post.state c.args.post.now) (g.P.Post.state c.put_controls-put.new.post) c.in_ok-full.full
-    c.in_ok-full.ensures.full (λ none. c.put_controls-put.ensures.count_put (ok ∙ ap Ok none)) (λ none. c.put_controls-put.ensures.totals_put (ok ∙ ap Ok none))
+pub returns-then-self-left-clause-due : goal.returns-then-self-left-clause-due
+returns-then-self-left-clause-due g c = λ inside. absurd (false≢true inside)
+
+pub returns-clause-due : goal.returns-clause-due
+returns-clause-due g c = λ inside.
+    puts_due (held_letters c.hear_all.new.comm) c.put_controls-put.new.self c.in_ok-full.full (g.P.Post.state c.args.post.now) (g.P.Post.state c.put_controls-put.new.post) c.in_ok-full.ensures.due
+
+pub returns-in_err-full-clause-no_memory : goal.returns-in_err-full-clause-no_memory
+returns-in_err-full-clause-no_memory g c =
+    let barrier = c.args.self.now in
+    let me = c.args.comm.now in
+    let told : BarrierState = c.hear_all.new.self in
+    let within : told.left ≤ barrier.left =
+    omega (arith, c.if-self-left.false, ap (λ (b : BarrierState). b.left) c.self.view_is, ap (λ (b : BarrierState). b.left) c.self-2.view_is) in
+    let heard_left : told.left ≡ barrier.left =
+    ap (λ (b : BarrierState). b.left) c.hear_all.ensures.heard
+    ∙ same_left g.H.Handler.apply g.H.Handler.start barrier me (g.P.Post.state c.args.post.now) c.requires.stands c.holds.ensures.in_range
+    (omega (arith, within, ap (λ (b : BarrierState). b.left) c.hear_all.ensures.heard)) in
+    let inside : told.inside ≡ true =
+    ap (λ (b : BarrierState). b.inside) c.hear_all.ensures.heard
+    ∙ inside_still g.H.Handler.apply g.H.Handler.start barrier me (g.P.Post.state c.args.post.now) c.requires.stands c.holds.ensures.in_range ∙ c.requires.inside in
+    let there : IfErr c.from_residual.result (λ fault. fault ≡ NoMemory) = search rules in
+    IfErr-weaker c.from_residual.result _ _
+    (λ fault no_memory. (
+      no_memory,
+      polled_waiting (held_letters c.hear_all.new.comm) barrier told c.put_controls-put.new.self (g.P.Post.state c.args.post.now)
+          (g.P.Post.state c.put_controls-put.new.post) heard_left inside c.put_controls-put.ensures.controls,
+    )) there
