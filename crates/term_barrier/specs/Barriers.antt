@@ -181,7 +181,7 @@ with_total_put barrier to =
 
 -- ---- the Totals of a round
 
--- Rank 0 was handed the Counts of all ranks of the round that comes after those that are over.
+-- Rank 0 was handed the Counts of all ranks of the next round to total, which is the first whose Total it hasn't put to all.
 abbrev pub HasEveryCount : BarrierState → Type 0
 HasEveryCount barrier = (from : ℕ) → from < barrier.layout.ranks → barrier.over < (heard_of barrier from).rounds
 
@@ -207,7 +207,8 @@ pub record IsTotalDue (barrier : BarrierState) (to : ℕ) (sums : Sums) : Type 0
   pub sums_are : sums ≡ round_sums barrier
   pub next : IsNextTotal barrier to
 
--- The Count of the present round of this rank wasn't handed to it, and it is the lowest rank of which this holds.
+-- Of this rank the Count of the present round wasn't handed to it, and it is the lowest rank of which this holds. The present
+-- round is the first whose Total wasn't handed to it.
 pub record IsMissing (barrier : BarrierState) (rank : ℕ) : Type 0 where
   pub within : rank < barrier.layout.ranks
   pub not_heard : (heard_of barrier rank).rounds ≤ barrier.known
@@ -217,9 +218,9 @@ pub record IsMissing (barrier : BarrierState) (rank : ℕ) : Type 0 where
 abbrev pub HasHeardAll : BarrierState → Type 0
 HasHeardAll barrier = (rank : ℕ) → rank < barrier.layout.ranks → barrier.known < (heard_of barrier rank).rounds
 
--- At rank 0, it put the Totals of the present round to all ranks, or was handed all Counts of that round.
-abbrev pub HasNoneToPut : BarrierState → Type 0
-HasNoneToPut barrier = barrier.here ≡ 0 → (barrier.known < barrier.over) ⊎ HasHeardAll barrier
+-- Rank 0 put the Totals of the present round to all ranks, or misses no Count of it.
+abbrev pub MissesNoCount : BarrierState → Type 0
+MissesNoCount barrier = barrier.here ≡ 0 → (barrier.known < barrier.over) ⊎ HasHeardAll barrier
 
 -- At rank 0, it put the Totals of the present round to all ranks, or wasn't handed all Counts of that round.
 abbrev pub HasPutTotals : BarrierState → Type 0

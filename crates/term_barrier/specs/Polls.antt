@@ -24,7 +24,7 @@ use Rattle.term_barrier.specs.declared.polled.Polled.{Polled}
 use Rattle.term_barrier.specs.declared.polled.Polled.TheVariants.{Left, Waiting as Waits}
 use Rattle.term_barrier.specs.declared.polled.Waiting.{Waiting}
 use Rattle.term_barrier.specs.declared.polled.Waiting.TheVariants.{Worked, Link, Count, Total, Spent}
-use Rattle.term_barrier.specs.Barriers.{BarrierAgrees, BarrierState, HasHeardAll, HasNoneToPut, IsMissing}
+use Rattle.term_barrier.specs.Barriers.{BarrierAgrees, BarrierState, HasHeardAll, MissesNoCount, IsMissing}
 use Rattle.term_barrier.specs.Left.{HasLeft}
 
 -- a put of control letters alone
@@ -111,8 +111,8 @@ IsReason barrier me old new turn (Total round) = IsStill turn old new × PolledT
 IsReason barrier me old new turn (Spent round) = IsStill turn old new × (round ≡ barrier.rounds) × IsSpent me round
 
 abbrev pub IsAnswer : BarrierState → BarrierState → Local → PostState → PostState → Turn → Polled → Type 0
-IsAnswer barrier left me old new turn (Left number round) = PolledLeft barrier left me number round
-IsAnswer barrier left me old new turn (Waits why) = PolledWaiting barrier left × IsReason left me old new turn why
+IsAnswer was now me old new turn (Left number round) = PolledLeft was now me number round
+IsAnswer was now me old new turn (Waits why) = PolledWaiting was now × IsReason now me old new turn why
 
 -- ---- a barrier, its rank and their log
 
@@ -152,7 +152,7 @@ abbrev pub IsOtherReason : BarrierState → Waiting → Type 0
 IsOtherReason barrier (Worked took) = ⊥
 IsOtherReason barrier (Link to) = ⊥
 IsOtherReason barrier (Count rank round) = (round ≡ barrier.known) × (barrier.known < barrier.counted) × (barrier.here ≡ 0) × IsMissing barrier rank
-IsOtherReason barrier (Total round) = (round ≡ barrier.known) × (barrier.known < barrier.counted) × HasNoneToPut barrier
+IsOtherReason barrier (Total round) = (round ≡ barrier.known) × (barrier.known < barrier.counted) × MissesNoCount barrier
 IsOtherReason barrier (Spent round) = (round ≡ barrier.rounds) × (barrier.counted ≤ barrier.known)
 
 -- After its turn a poll takes in control letters and puts some. Of the rank it changes nothing but that it keeps no control
