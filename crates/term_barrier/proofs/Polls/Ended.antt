@@ -1,5 +1,5 @@
 -- What a whole poll does: a turn, and what comes after it.
-use Rattle.std.proofs.Common.{◌≡◌, ℕ, ◌<◌, inr, true, false, Result, Ok, Err, IfOk, OnOk, List, [], ◌∷◌, ◌++◌, refl, sym, ap, ◌∙◌, subst, arith}
+use Rattle.std.proofs.Common.{◌≡◌, ℕ, ◌<◌, inl, inr, true, false, Result, Ok, Err, IfOk, OnOk, List, [], ◌∷◌, ◌++◌, refl, sym, ap, ◌∙◌, subst, arith}
 use Rattle.std.specs.List.{AllByRecursion}
 use Rattle.world_core.specs.declared.entry.Entry.{Entry}
 use Rattle.world_core.specs.declared.entry.Entry.TheVariants.{Put, Took}
@@ -12,6 +12,7 @@ use Rattle.comm_rank.specs.declared.turn.Turn.{Turn}
 use Rattle.comm_rank.specs.Agrees.{MayTurn}
 use Rattle.comm_rank.specs.Fault.{UnlessStopped}
 use Rattle.comm_rank.specs.Fold.{Applies}
+use Rattle.comm_rank.specs.Held.{NoneClosed}
 use Rattle.comm_rank.specs.Rank.{IsSameRank, Rank, Worked, halted, held_letters, local_of}
 use Rattle.comm_rank.specs.Turns.{HasEnded, KeepsPost, LookedAt}
 use Rattle.comm_rank.proofs.Rank.Same.{same_rank}
@@ -54,6 +55,9 @@ module _ {C : Type 0} (apply : Applies C) (start : C → C) (barrier : BarrierSt
     same_held : held_letters mid ≡ held_letters me
     same_held = sym (ap (λ (r : Rank C). held_letters r) then.handed_over)
 
+    same_lists : mid.held ≡ me.held
+    same_lists = sym (ap (λ (r : Rank C). r.held) then.handed_over)
+
     gained : GainedControls (held_letters me) (looked.log one.here) (after.log one.here)
     gained =
         subst (λ h. GainedControls (held_letters me) (looked.log h) (after.log h)) here
@@ -88,6 +92,10 @@ module _ {C : Type 0} (apply : Applies C) (start : C → C) (barrier : BarrierSt
           same_after.here answers;
       puts_due = λ inside. due_since (held_letters me) new before looked after first.counts.fulls (due inside);
       takes_from_each = looked_at_each;
+      puts_to_each = λ to within. elim (ended.puts_to_each to within) [
+        | inl none ↦ inl (subst (λ held. NoneClosed held to) same_lists none)
+        | inr met ↦ inr (omega (arith, met.rose, then.keeps.counts.fulls to))
+      ];
       stops = λ rank. then.keeps.stops rank ∙ ended.stops rank;
       halts = then.keeps.halts ∙ ended.halts;
     }
