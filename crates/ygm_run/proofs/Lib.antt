@@ -1,11 +1,11 @@
-pub mod Carried
 pub mod Ending
-pub mod Fed
 pub mod Held
 pub mod Inputs
-pub mod JobEnds
 pub mod Lines
 pub mod Notes
+pub mod RankJobs
+pub mod RankRuns
+pub mod ReadLines
 pub mod Refusals
 pub mod TallyRun
 pub mod TallyText

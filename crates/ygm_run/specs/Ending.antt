@@ -51,12 +51,10 @@ opens left faults contents sources count count_now = record {
   passes = (length sources ≡ length contents) × (count_now ≡ count);
 }
 
--- A rank's count is full. That a run goes on says nothing of the counts.
-abbrev pub counts : {S : Type 0} → (List ℕ → Option LineWhy) → (S → ExposedBytes) → (S → ℕ)
-    → List ExposedBytes → List S → Stage
-counts wrong left faults contents sources = record {
-  refuses = λ status. (rank limit : ℕ) × (status ≡ CountFull rank limit)
-      × IsFullAtRank wrong left faults contents sources rank limit;
+-- The count of a rank, one of so many, is full. That a run goes on says nothing of the counts.
+abbrev pub counts : ℕ → List ExposedBytes → Stage
+counts ranks contents = record {
+  refuses = λ status. (rank limit : ℕ) × (status ≡ CountFull rank limit) × IsFullAtRank ranks contents rank limit;
   passes = ⊤;
 }
 

@@ -6,6 +6,7 @@ use Rattle.ygm_run.specs.declared.status.InputFault.TheVariants.{Read, Bad}
 use Rattle.ygm_run.specs.declared.status.LineWhy.{LineWhy}
 use Rattle.world_core.specs.Limits.{most_letters}
 use Rattle.ygm_run.specs.BadLines.{first_wrong, good_lines}
+use Rattle.ygm_run.specs.Job.{AreExposed, letters_bound, lines_of_each}
 use Rattle.ygm_run.specs.Lines.{raw_lines, ended_lines}
 
 -- what remains of a content: some prefix of it was taken
@@ -35,26 +36,12 @@ pub record IsRead {S : Type 0} (wrong : List ℕ → Option LineWhy) (left : S �
   -- where no read failed, at most as many lines come before a bad one as a rank may send letters
   pub few : faults source ≡ 0 → IfSome content (λ bytes. length (good_lines wrong (raw_lines bytes)) ≤ most_letters)
 
--- A rank's count of letters is full, at the limit that its counter reports: its file, which has this content and this
--- count of faults, has more lines before a bad one than a rank may send letters.
-pub record IsFull (wrong : List ℕ → Option LineWhy) (content : ExposedBytes) (faults limit : ℕ) : Type 0 where
-  pub limit_is : limit ≡ most_letters
-  pub lines : IfSome content (λ bytes. most_letters < length (good_lines wrong (raw_lines bytes)))
-  pub no_read_failed : faults ≡ 0
-
 -- the files of the ranks, in their order, were read, each with its fault
 abbrev pub AreRead : {S : Type 0} → (List ℕ → Option LineWhy) → (S → ExposedBytes) → (S → ℕ) → List ExposedBytes → List S
     → (ℕ → Option InputFault) → Type 0
 AreRead {S} wrong left faults contents sources fault =
     (rank : ℕ) (content : ExposedBytes) (source : S) → slice_get contents rank ≡ Some content → slice_get sources rank ≡ Some source
     → IsRead wrong left faults content source (fault rank)
-
--- the files of the first ranks were read
-abbrev pub FirstAreRead : {S : Type 0} → (List ℕ → Option LineWhy) → (S → ExposedBytes) → (S → ℕ) → List ExposedBytes → List S
-    → ℕ → (ℕ → Option InputFault) → Type 0
-FirstAreRead {S} wrong left faults contents sources ranks fault =
-    (rank : ℕ) (content : ExposedBytes) (source : S) → rank < ranks
-    → slice_get contents rank ≡ Some content → slice_get sources rank ≡ Some source → IsRead wrong left faults content source (fault rank)
 
 -- all files were read to their ends
 abbrev pub AllRead : {S : Type 0} → (List ℕ → Option LineWhy) → (S → ExposedBytes) → (S → ℕ)
@@ -70,17 +57,12 @@ pub record IsLowestFault {S : Type 0} (wrong : List ℕ → Option LineWhy) (lef
   pub here : fault rank ≡ Some found
   pub none_below : (lower : ℕ) → lower < rank → fault lower ≡ None
 
--- The count of letters of a rank is full, and of no rank below. The files of the ranks below were read, each to its end
--- or its first fault.
-pub record IsFullAtRank {S : Type 0} (wrong : List ℕ → Option LineWhy) (left : S → ExposedBytes) (faults : S → ℕ)
-    (contents : List ExposedBytes) (sources : List S) (rank limit : ℕ) : Type 0 where
-  pub content : ExposedBytes
-  pub source : S
-  pub content_is : slice_get contents rank ≡ Some content
-  pub source_is : slice_get sources rank ≡ Some source
-  pub full : IsFull wrong content (faults source) limit
-  pub fault : ℕ → Option InputFault
-  pub read_below : FirstAreRead wrong left faults contents sources rank fault
+-- The count of letters of this rank, one of so many, is full, at the limit that its counter reports: by the lines of all
+-- files together a rank may send more letters than it may.
+pub record IsFullAtRank (ranks : ℕ) (contents : List ExposedBytes) (rank limit : ℕ) : Type 0 where
+  pub within : rank < ranks
+  pub limit_is : limit ≡ most_letters
+  pub above : (bytes : List (List ℕ)) → AreExposed contents bytes → most_letters < letters_bound (lines_of_each bytes)
 
 -- what remains of each file that was opened is a suffix of it
 abbrev pub AreRests : {S : Type 0} → (S → ExposedBytes) → List ExposedBytes → List S → Type 0

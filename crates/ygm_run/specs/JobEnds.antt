@@ -1,43 +1,43 @@
--- Only private functions cite this: how a job over open files ended.
-use Rattle.std.specs.Prelude.{◌≡◌, ℕ, List, Option, ⊤}
+-- How a job over files ends: with the shards of all ranks, or without.
+use Rattle.std.specs.Prelude.{ℕ, List, Option, map, ⊤}
 use Rattle.ygm_io.specs.Content.{ExposedBytes}
-use Rattle.comm_rank.specs.declared.fault.CommFault.{CommFault}
-use Rattle.comm_rank.specs.declared.fault.CommFault.TheVariants.{CountFull as CommFull, NoMemory as CommNoMemory, Stopped as CommStopped}
+use Rattle.counting_set.specs.Counting.{Counts}
+use Rattle.ygm_run.specs.declared.run_job.JobFault.{JobFault}
+use Rattle.ygm_run.specs.declared.run_job.JobFault.TheVariants.{Bad as JobBad, CountFull as JobFull, NoMemory as JobNoMemory, Read as JobRead}
 use Rattle.ygm_run.specs.declared.status.InputFault.{InputFault}
+use Rattle.ygm_run.specs.declared.status.InputFault.TheVariants.{Bad, Read}
 use Rattle.ygm_run.specs.declared.status.LineWhy.{LineWhy}
 use Rattle.ygm_run.specs.declared.status.Status.{Status}
-use Rattle.ygm_run.specs.declared.status.Status.TheVariants.{CountFull, NoMemory}
-use Rattle.ygm_run.specs.declared.tally.JobFault.{JobFault}
-use Rattle.ygm_run.specs.declared.tally.JobFault.TheVariants.{Input as JobInput, CountFull as JobFull, NoMemory as JobNoMemory}
-use Rattle.ygm_run.specs.Inputs.{IsFullAtRank, IsLowestFault}
-use Rattle.ygm_run.specs.Ending.{of_input}
+use Rattle.ygm_run.specs.declared.status.Status.TheVariants.{BadLine, CountFull, NoMemory, ReadFault}
+use Rattle.ygm_run.specs.BadLines.{tally_wrong}
+use Rattle.ygm_run.specs.Inputs.{AllRead, IsFullAtRank, IsLowestFault}
 use Rattle.ygm_run.specs.Job.{AreExposed, lines_of_each}
-use Rattle.ygm_run.specs.TallyText.{tally_text}
+use Rattle.ygm_run.specs.TallyRun.{IsTallyRun}
 
--- a fact of the job's text, where the files expose their bytes
-abbrev pub OfText : List ExposedBytes → (List ℕ → Type 0) → Type 0
-OfText contents P = (bytes : List (List ℕ)) → AreExposed contents bytes → P (tally_text (lines_of_each bytes))
+-- the fault of a rank's input, as one of the job
+abbrev pub fault_of : ℕ → InputFault → JobFault
+fault_of rank Read = JobRead rank
+fault_of rank (Bad line why) = JobBad rank line why
 
--- the status of a job that has no text
+-- the status of a job that has no shards
 abbrev pub status_of : JobFault → Status
-status_of (JobInput rank found) = of_input rank found
 status_of (JobFull rank at) = CountFull rank at
+status_of (JobRead rank) = ReadFault rank
+status_of (JobBad rank line why) = BadLine rank line why
 status_of JobNoMemory = NoMemory
 
--- the cause of a job's fault
-abbrev pub StopsBy : (full : ℕ → ℕ → Type 0) (fault : ℕ → InputFault → Type 0) → JobFault → Type 0
-StopsBy full fault (JobInput rank found) = fault rank found
-StopsBy full fault (JobFull rank at) = full rank at
-StopsBy full fault JobNoMemory = ⊤
-
--- why the job over these files has no text
-abbrev pub JobStops : {S : Type 0} → (List ℕ → Option LineWhy) → (S → ExposedBytes) → (S → ℕ)
+-- Why the job of so many ranks over these files has no shards. Memory may run out at any time.
+abbrev pub JobStops : {S : Type 0} → (List ℕ → Option LineWhy) → (S → ExposedBytes) → (S → ℕ) → ℕ
     → List ExposedBytes → List S → JobFault → Type 0
-JobStops wrong left faults contents sources =
-    StopsBy (IsFullAtRank wrong left faults contents sources) (IsLowestFault wrong left faults contents sources)
+JobStops wrong left faults ranks contents sources (JobFull rank at) = IsFullAtRank ranks contents rank at
+JobStops wrong left faults ranks contents sources (JobRead rank) = IsLowestFault wrong left faults contents sources rank Read
+JobStops wrong left faults ranks contents sources (JobBad rank line why) =
+    IsLowestFault wrong left faults contents sources rank (Bad line why)
+JobStops wrong left faults ranks contents sources JobNoMemory = ⊤
 
--- a rank's fault as one of the job; none is a stop
-abbrev pub IsFaultOf : ℕ → CommFault → JobFault → Type 0
-IsFaultOf rank (CommFull at) fault = fault ≡ JobFull rank at
-IsFaultOf rank CommNoMemory fault = fault ≡ JobNoMemory
-IsFaultOf rank CommStopped fault = ⊥
+-- The job of so many ranks ended with these shards: every file was read to its end, and where the files expose their bytes,
+-- the shards are those of a complete run over their lines. `start` are the sources as they were at first.
+pub record HasRun {S : Type 0} (left : S → ExposedBytes) (faults : S → ℕ) (ranks : ℕ) (start sources : List S)
+    (shards : List Counts) : Type 0 where
+  pub read : AllRead tally_wrong left faults (map left start) sources
+  pub complete : (bytes : List (List ℕ)) → AreExposed (map left start) bytes → IsTallyRun ranks (lines_of_each bytes) shards

@@ -1,7 +1,5 @@
 pub mod BadLines
-pub mod Carried
 pub mod Ending
-pub mod Fed
 pub mod Held
 pub mod Inputs
 pub mod Job
@@ -9,6 +7,9 @@ pub mod JobEnds
 pub mod Limits
 pub mod Lines
 pub mod Notes
+pub mod RankJobs
+pub mod RankRuns
+pub mod ReadLines
 pub mod Reading
 pub mod Refusals
 pub mod TallyRun

@@ -1,5 +1,5 @@
 //! What follows from why a run ends, as laws over the stages.
-ghost use Rattle.std.specs.Prelude.{◌≡◌, ◌⊎◌, ◌≤◌, ℕ, List, [], ◌∷◌, Some, Result, IsOk, slice_get};
+ghost use Rattle.std.specs.Prelude.{◌≡◌, ◌⊎◌, ◌≤◌, ℕ, List, [], ◌∷◌, Some, Result, IsOk, length, slice_get};
 ghost use Rattle.world_core.specs.Limits.{most_letters};
 ghost use Rattle.ygm_io.specs.Content.{ExposedBytes};
 ghost use Rattle.ygm_io.specs.Rising.{Rose};
@@ -20,7 +20,7 @@ pub fn only_memory_can_run_out<S: Source>()
         (opening opening_now writing writing_now : ℕ) (status : Status) (bytes : List (List ℕ)) (text : List ℕ)
         → Ends (words order sources
         ∷ opens S.left S.faults contents sources opening opening_now
-        ∷ counts tally_wrong S.left S.faults contents sources
+        ∷ counts (length contents) contents
         ∷ inputs tally_wrong S.left S.faults contents sources
         ∷ writes writing writing_now
         ∷ []) status

@@ -5,15 +5,16 @@ ghost use Rattle.std.specs.Prelude.{◌≡◌, ◌⊎◌, drop, IfErr, IfOk};
 ghost use Rattle.std.specs.Vec.Iter.{into_iter_items};
 
 pub mod ending_laws;
-mod input;
+mod job;
 pub mod limit_laws;
 pub mod line_laws;
 pub mod line_reader;
 pub mod note;
 mod pieces;
+mod ranks;
+pub mod run_job;
 mod running;
 pub mod status;
-mod tally;
 pub mod tally_laws;
 pub mod tally_text;
 #[cfg(test)]
@@ -21,7 +22,6 @@ mod tests;
 pub mod verdict_laws;
 pub mod words;
 pub mod words_laws;
-mod world;
 
 pub use running::run;
 use std::alloc::{AllocError, Global};
@@ -69,6 +69,6 @@ fn main(rt: HostRuntime) -> ExitCode {
     let mut out = StdSink::new(rt.stdout());
     let mut notes = StdSink::new(rt.stderr());
     let mut files = StdFiles::new(rt);
-    let ended = run(alloc, &words, &mut files, &mut out, &mut notes);
+    let ended = run(&rt, alloc, &words, &mut files, &mut out, &mut notes);
     ExitCode::from(ended.status.number())
 }

@@ -1,35 +1,38 @@
 //! The top call: from words to a text.
-ghost use Rattle.std.specs.Prelude.{◌≡◌, ◌⊎◌, ◌<◌, ◌≤◌, ◌^◌, true, false, ℕ, List, [], ◌∷◌, Some, IfErr, OnOk, length, map, slice_get, take};
+ghost use Rattle.std.specs.Prelude.{◌≡◌, ◌⊎◌, ◌<◌, ◌≤◌, ◌^◌, true, false, ℕ, List, [], ◌∷◌, Some, IfErr, OnOk, flat_map, length, map, slice_get, take};
 ghost use Rattle.ygm_io.specs.Content.{NothingLeft};
 ghost use Rattle.ygm_io.specs.Rising.{Rose};
 ghost use Rattle.ygm_route.specs.Layout.{max_ranks};
 ghost use Rattle.ygm_run.specs.BadLines.{tally_wrong};
 ghost use Rattle.ygm_run.specs.Ending.{Ends, FollowsVerdict, IsNoted, IsWritten, counts, inputs, may_write, opens, words as words_stage, writes};
-ghost use Rattle.ygm_run.specs.JobEnds.{OfText, status_of};
+ghost use Rattle.ygm_run.specs.JobEnds.{status_of};
 ghost use Rattle.ygm_run.specs.Inputs.{AreRests};
-ghost use Rattle.ygm_run.specs.Job.{AreExposed};
+ghost use Rattle.ygm_run.specs.Job.{AreExposed, OfText};
+ghost use Rattle.ygm_run.specs.TallyText.{IsTableOf};
 ghost use Rattle.ygm_run.specs.Notes.{FileIsBelow, note_takes_memory, note_text};
 ghost use Rattle.ygm_run.specs.Verdict.{tally_verdict};
 ghost use Rattle.ygm_run.specs.Words.{named, order_of, texts_of};
 
 use crate::note::{OUT_OF_MEMORY, fixed_note, note_of};
 use crate::status::{Ended, InputFault, Status};
-use crate::tally::{JobFault, tally};
+use crate::run_job::{JobFault, JobKind, Ran, Settings, run_job};
+use crate::tally_text::text_of;
 use crate::words::read_words;
+use counting_set::Counting;
 use std::alloc::Global;
+use std::sync::Wait;
 use ygm_io::{Files, OpenFailed, Sink, Source, write_all};
+use ygm_route::{Layout, Scheme};
 
 impl JobFault {
-    // The status of a job that has no text.
+    // The status of a job that has no shards.
     fn status(self) -> Status
         ensures { result ≡ status_of self }
     {
         match self {
-            JobFault::Input { rank, fault } => match fault {
-                InputFault::Read => Status::ReadFault { rank },
-                InputFault::Bad { line, why } => Status::BadLine { rank, line, why },
-            },
             JobFault::CountFull { rank, at } => Status::CountFull { rank, at },
+            JobFault::Read { rank } => Status::ReadFault { rank },
+            JobFault::Bad { rank, line, why } => Status::BadLine { rank, line, why },
             JobFault::NoMemory => Status::NoMemory,
         }
     }
@@ -81,28 +84,58 @@ fn write_text<O: Sink>(text: &[u8], out: &mut O) -> Status
     }
 }
 
-// Writes the text of the sources' lines.
-fn finish<S: Source, O: Sink>(alloc: Global, sources: &mut [S], out: &mut O) -> Status
-    requires some { 1 ≤ length sources.old }
-    requires few { length sources.old ≤ max_ranks }
-    requires fresh { (rank : ℕ) (source : S) → slice_get sources.old rank ≡ Some source → S.faults source ≡ 0 }
-    ensures ends { let contents = map S.left sources.old in
-        Ends (counts tally_wrong S.left S.faults contents sources.new
-        ∷ inputs tally_wrong S.left S.faults contents sources.new
-        ∷ writes (O.faults out.old) (O.faults out.new)
-        ∷ []) result }
-    ensures text { OfText (map S.left sources.old) (λ text. IsWritten result text (O.holds out.old) (O.holds out.new)) }
+// Writes the text of what the ranks keep.
+fn finish<O: Sink>(alloc: Global, shards: &[Counting], out: &mut O) -> Status
+    ensures ends { Ends (writes (O.faults out.old) (O.faults out.new) ∷ []) result }
+    ensures text { (text : List ℕ) → ((table : List ℕ) → IsTableOf (flat_map (λ shard. shard) shards.now) table → table ≡ text)
+        → IsWritten result text (O.holds out.old) (O.holds out.new) }
     ensures nothing_written { may_write result ≡ false → out.new ≡ out.old }
-    ensures rests { AreRests S.left (map S.left sources.old) sources.new }
 {
-    match tally(alloc, sources) {
+    match text_of(alloc, shards) {
         Ok(text) => write_text(&text, out),
-        Err(fault) => fault.status(),
+        Err(_) => Status::NoMemory,
     }
 }
 
+// Runs tally over the sources, with a rank for each, and writes its text.
+fn tally<R: Wait, S: Source, O: Sink>(
+    rt: &R,
+    alloc: Global,
+    sources: Vec<S>,
+    out: &mut O,
+) -> Ended<S>
+    requires some { 1 ≤ length sources.items }
+    requires few { length sources.items ≤ max_ranks }
+    requires fresh { (rank : ℕ) (source : S) → slice_get sources.items rank ≡ Some source → S.faults source ≡ 0 }
+    ensures ends { let contents = map S.left sources.items in
+        Ends (counts (length sources.items) contents
+        ∷ inputs tally_wrong S.left S.faults contents result.sources.items
+        ∷ writes (O.faults out.old) (O.faults out.new)
+        ∷ []) result.status }
+    ensures text { OfText (map S.left sources.items) (λ text. IsWritten result.status text (O.holds out.old) (O.holds out.new)) }
+    ensures nothing_written { may_write result.status ≡ false → out.new ≡ out.old }
+    ensures rests { AreRests S.left (map S.left sources.items) result.sources.items }
+    ensures all { length result.sources.items ≡ length sources.items }
+{
+    let Ok(layout) = Layout::new(sources.len() as u32, 1) else {
+        unreachable!();
+    };
+    let settings = Settings {
+        kind: JobKind::Tally,
+        layout,
+        scheme: Scheme::Direct,
+    };
+    let Ran { outcome, sources } = run_job(rt, alloc, &settings, sources);
+    let status = match outcome {
+        Ok(shards) => finish(alloc, &shards, out),
+        Err(fault) => fault.status(),
+    };
+    Ended { status, sources }
+}
+
 // Opens the files of these names, and writes the text of their lines.
-fn run_tally<F: Files, O: Sink>(
+fn run_tally<R: Wait, F: Files, O: Sink>(
+    rt: &R,
     alloc: Global,
     names: &[String],
     files: &mut F,
@@ -113,7 +146,7 @@ fn run_tally<F: Files, O: Sink>(
     ensures ends { let contents = map (F.content files.old) (texts_of names.now) in
         let sources = result.sources.items in
         Ends (opens F.Src.left F.Src.faults contents sources (F.faults files.old) (F.faults files.new)
-        ∷ counts tally_wrong F.Src.left F.Src.faults contents sources
+        ∷ counts (length names.now) contents
         ∷ inputs tally_wrong F.Src.left F.Src.faults contents sources
         ∷ writes (O.faults out.old) (O.faults out.new)
         ∷ []) result.status }
@@ -128,8 +161,7 @@ fn run_tally<F: Files, O: Sink>(
     if let Err(status) = open_all(names, files, &mut sources) {
         return Ended { status, sources };
     }
-    let status = finish(alloc, &mut sources, out);
-    Ended { status, sources }
+    tally(rt, alloc, sources, out)
 }
 
 // Writes the note of how the run ended, and returns the status. If the note takes memory and there is none, that is the
@@ -156,13 +188,15 @@ fn report<N: Sink>(alloc: Global, status: Status, names: &[String], notes: &mut 
 }
 
 /// Runs the job that the words ask for, over the files that they name. Writes its text to `out`, and a note of
-/// how it ended to `notes`. There is a rank for each file, and all of them run on this thread.
+/// how it ended to `notes`. There is a rank for each file, and all of them run on this thread, turn by turn. The call is
+/// done once all ranks have left the job's barrier; that they do isn't promised.
 ///
 /// Returns the sources that were opened, in the order of the files: none after `Usage`, those before the file
 /// that failed after `OpenFault`, perhaps not all after `NoMemory`, otherwise all. After a rank's input fails, the
 /// other ranks are still read. Nothing is written to `out` unless the status is `Done` or `WriteFault`. A failure
 /// of `notes` changes no status. The notes of `Usage`, `WriteFault` and `NoMemory` take no memory.
-pub fn run<F: Files, O: Sink, N: Sink>(
+pub fn run<R: Wait, F: Files, O: Sink, N: Sink>(
+    rt: &R,
     alloc: Global,
     words: &[String],
     files: &mut F,
@@ -176,7 +210,7 @@ pub fn run<F: Files, O: Sink, N: Sink>(
         let sources = result.sources.items in
         Ends (words_stage order sources
         ∷ opens F.Src.left F.Src.faults contents sources (F.faults files.old) (F.faults files.new)
-        ∷ counts tally_wrong F.Src.left F.Src.faults contents sources
+        ∷ counts (length contents) contents
         ∷ inputs tally_wrong F.Src.left F.Src.faults contents sources
         ∷ writes (O.faults out.old) (O.faults out.new)
         ∷ []) result.status }
@@ -203,7 +237,7 @@ pub fn run<F: Files, O: Sink, N: Sink>(
 {
     match read_words(words) {
         Ok(order) => {
-            let ended = run_tally(alloc, order.names, files, out);
+            let ended = run_tally(rt, alloc, order.names, files, out);
             Ended {
                 status: report(alloc, ended.status, order.names, notes),
                 sources: ended.sources,

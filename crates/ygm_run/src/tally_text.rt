@@ -4,11 +4,14 @@ ghost use Rattle.std.specs.Prelude.{
   ◌↔◌,
   ℕ,
   ◌+◌,
+  ◌++◌,
   List,
   AllPairs,
   Contains,
   IfOk,
   IsPermutation,
+  OnOk,
+  flat_map,
   length,
   min,
   sum_by,
@@ -25,6 +28,7 @@ ghost use Rattle.ygm_run.specs.TallyText.{
   tally_text,
 };
 
+use counting_set::Counting;
 use itoa::Buffer;
 use std::alloc::{AllocError, Global};
 
@@ -39,6 +43,27 @@ pub fn table_of(alloc: Global, mut entries: Vec<(&[u8], u64)>) -> Result<Vec<u8>
 {
     entries.sort_unstable();
     rows_of(alloc, &entries)
+}
+
+/// The text of what the ranks keep: a row for each entry of each shard, in byte order of the items.
+pub fn text_of(alloc: Global, shards: &[Counting]) -> Result<Vec<u8>, AllocError>
+    ensures table { IfOk result (λ text. IsTableOf (flat_map (λ shard. shard) shards.now) text.items) }
+{
+    let mut entries = Vec::new(alloc);
+    for shard in shards {
+        gather(shard, &mut entries)?;
+    }
+    table_of(alloc, entries)
+}
+
+// Appends what a shard has to the other entries.
+fn gather<'a>(shard: &'a Counting, entries: &mut Vec<(&'a [u8], u64)>) -> Result<(), AllocError>
+    ensures { OnOk result (pairs_of entries.new.items ≡ pairs_of entries.old.items ++ shard.now) }
+{
+    for k in 0..shard.len_here() {
+        entries.push(shard.entry_here(k))?;
+    }
+    Ok(())
 }
 
 /// The most bytes that a row has besides its item: the 20 digits of a `u64`, TAB and LF.

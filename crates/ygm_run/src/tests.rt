@@ -32,11 +32,12 @@ fn words_of(alloc: Global, texts: &[&str]) -> Result<Vec<String>, AllocError> {
 
 // A run over these files, whose output takes 3 bytes at each call and fails at these.
 fn run_into(
-    alloc: Global,
+    rt: &(impl Wait + AllocGlobal),
     files: &mut MemFiles,
     texts: &[&str],
     fails: &[u64],
 ) -> Result<Outcome, AllocError> {
+    let alloc = rt.alloc();
     let words = words_of(alloc, texts)?;
     let mut out = MemSink::new(alloc, fails, 3)?;
     let mut notes = MemSink::new(alloc, &[], 1000)?;

@@ -1,9 +1,6 @@
 -- Where nothing fails, only memory can run out.
-use Rattle.std.proofs.Common.{◌≡◌, ◌⊎◌, ℕ, ◌<◌, ◌≤◌, List, [], Some, None, Option, IfSome, IsOk, Result, Ok, Err, length, get_or, slice_get, refl, ap, sym, ◌∙◌, subst, arith, inl, inr}
-use Rattle.std.specs.Option.{option_map}
+use Rattle.std.proofs.Common.{◌≡◌, ◌⊎◌, ℕ, ◌<◌, ◌≤◌, List, [], Some, None, Option, IfSome, IsOk, Result, Ok, Err, length, slice_get, refl, ap, sym, ◌∙◌, subst, arith, inl, inr}
 use Rattle.std.proofs.lemmas.List.{length-map}
-use Rattle.std.proofs.lemmas.List.Folds.{length-flat_map-take}
-use Rattle.std.proofs.lemmas.Option.{slice_get-map, slice_get_within, get_or_from_slice_get}
 use Rattle.ygm_io.specs.Content.{ExposedBytes}
 use Rattle.ygm_io.specs.Rising.{Rose}
 use Rattle.world_core.specs.Limits.{most_letters}
@@ -13,27 +10,15 @@ use Rattle.ygm_run.specs.declared.status.LineWhy.{LineWhy}
 use Rattle.ygm_run.specs.declared.status.Status.{Status}
 use Rattle.ygm_run.specs.declared.status.Status.TheVariants.{Done, NoMemory}
 use Rattle.ygm_run.specs.declared.words.UsageKind.{UsageKind}
-use Rattle.ygm_run.specs.BadLines.{first_wrong, good_lines, tally_wrong}
+use Rattle.ygm_run.specs.BadLines.{first_wrong, tally_wrong}
 use Rattle.ygm_run.specs.Inputs.{IsFullAtRank, IsLowestFault, IsRead}
 use Rattle.ygm_run.specs.Job.{AreExposed, letters_bound, lines_of_each}
-use Rattle.ygm_run.specs.Lines.{lines_of, raw_lines, text_of}
-use Rattle.ygm_run.specs.TallyText.{all_lines, tally_text}
+use Rattle.ygm_run.specs.Lines.{raw_lines}
+use Rattle.ygm_run.specs.TallyText.{tally_text}
 use Rattle.ygm_run.specs.Verdict.{Text, first_bad, tally_verdict}
 use Rattle.ygm_run.proofs.Ending.Follows.{file_at, item_at, source_at}
 use Rattle.ygm_run.proofs.Ending.Stages.{RunEnds}
-use Rattle.ygm_run.proofs.Inputs.GoodLines.{few_good}
 use Rattle.ygm_run.proofs.Verdict.FirstBad.{none_at, none_of_text}
-use Rattle.list_facts.proofs.Places.{same_item}
-
--- the lines of one file are among all
-few_lines : (files : List (List ℕ)) (rank : ℕ) (file : List ℕ) → slice_get files rank ≡ Some file
-    → length (good_lines tally_wrong (raw_lines file)) ≤ length (all_lines (lines_of_each files))
-few_lines files rank file at =
-    let texts = lines_of_each files in
-    let mine : get_or texts rank [] ≡ lines_of file = get_or_from_slice_get texts rank (lines_of file) [] (slice_get-map lines_of files rank ∙ ap (option_map lines_of) at) in
-    let within : rank < length files = slice_get_within files rank file at in
-    let more = length-flat_map-take (λ (lines : List (List ℕ)). lines) texts rank [] (omega (arith, within, length-map files lines_of)) in
-    omega (arith, few_good (raw_lines file), length-map (raw_lines file) text_of, more, ap length mine)
 
 some_or_none : (found : ℕ × LineWhy) (line : Option (ℕ × LineWhy)) → line ≡ Some found → line ≡ None → ⊥
 some_or_none found None is none = cc
@@ -60,14 +45,8 @@ module _ {S : Type 0} (left : S → ExposedBytes) (faults : S → ℕ) (contents
         none (BadInput line why) source file read calm good = some_or_none (line, why) (first_wrong tally_wrong (raw_lines file)) (sym (read.bad calm)) good
 
   -- no count is full where the lines of all files are few
-  no_full : (rank limit : ℕ) → letters_bound (lines_of_each files) ≤ most_letters
-      → IsFullAtRank tally_wrong left faults contents sources rank limit → ⊥
-  no_full rank limit few full =
-      let within : rank < length contents = slice_get_within contents rank full.content full.content_is in
-      let file = item_at files rank (omega (arith, within, ap length exposed, length-map files Some)) in
-      let same : full.content ≡ Some file.0 = same_item contents rank full.content (Some file.0) full.content_is (file_at contents files rank file.0 exposed file.1) in
-      let many = subst (λ (w : ExposedBytes). IfSome w (λ bytes. most_letters < length (good_lines tally_wrong (raw_lines bytes)))) same full.full.lines in
-      omega (arith, many, few, few_lines files rank file.0 file.1)
+  no_full : (rank limit : ℕ) → letters_bound (lines_of_each files) ≤ most_letters → IsFullAtRank (length contents) contents rank limit → ⊥
+  no_full rank limit few full = let many = full.above files exposed in omega (arith, many, few)
 
   -- where nothing fails, no line is bad and the lines are few, a run is done or out of memory
   pub done_or_no_memory : (order : Result (List (List ℕ)) UsageKind) (opening opening_now writing writing_now : ℕ) (status : Status)

@@ -6,8 +6,8 @@ use Rattle.ygm_run.specs.declared.status.InputFault.TheVariants.{Read, Bad}
 use Rattle.ygm_run.specs.declared.status.LineWhy.{LineWhy}
 use Rattle.ygm_run.specs.declared.status.Status.{Status}
 use Rattle.ygm_run.specs.declared.status.Status.TheVariants.{Done, OpenFault, ReadFault, BadLine, WriteFault, NoMemory, CountFull}
-use Rattle.ygm_run.specs.declared.tally.JobFault.{JobFault}
-use Rattle.ygm_run.specs.declared.tally.JobFault.TheVariants.{Input as JobInput, CountFull as JobFull, NoMemory as JobNoMemory}
+use Rattle.ygm_run.specs.declared.run_job.JobFault.{JobFault}
+use Rattle.ygm_run.specs.declared.run_job.JobFault.TheVariants.{Bad as JobBad, CountFull as JobFull, NoMemory as JobNoMemory, Read as JobRead}
 use Rattle.ygm_run.specs.declared.words.UsageKind.{UsageKind}
 use Rattle.ygm_run.specs.Ending.{Ends, IsWritten, Stage, counts, inputs, may_write, of_input, opens, words, writes}
 use Rattle.ygm_run.specs.Inputs.{AllRead, IsLowestFault}
@@ -36,8 +36,9 @@ of_input_unwritten rank (Bad line why) = refl
 
 -- a job that stops writes nothing
 pub job_unwritten : (fault : JobFault) → may_write (status_of fault) ≡ false
-job_unwritten (JobInput rank found) = of_input_unwritten rank found
 job_unwritten (JobFull rank at) = refl
+job_unwritten (JobRead rank) = refl
+job_unwritten (JobBad rank line why) = refl
 job_unwritten JobNoMemory = refl
 
 of_input_opened : (rank file : ℕ) (found : InputFault) → of_input rank found ≡ OpenFault file → ⊥
@@ -53,40 +54,40 @@ of_input_line rank other line why (Bad at reason) e = let f : BadLine other at r
 abbrev pub FilesEnd : {S : Type 0} → (List ℕ → Option LineWhy) → (S → ExposedBytes) → (S → ℕ) → List ExposedBytes → List S
     → (opening opening_now writing writing_now : ℕ) → Status → Type 0
 FilesEnd wrong left faults contents sources opening opening_now writing writing_now status =
-    Ends (opens left faults contents sources opening opening_now ∷ counts wrong left faults contents sources
+    Ends (opens left faults contents sources opening opening_now ∷ counts (length contents) contents
     ∷ inputs wrong left faults contents sources ∷ writes writing writing_now ∷ []) status
 
 -- the same, with the words
 abbrev pub RunEnds : {S : Type 0} → (List ℕ → Option LineWhy) → (S → ExposedBytes) → (S → ℕ) → Result (List (List ℕ)) UsageKind → List ExposedBytes → List S
     → (opening opening_now writing writing_now : ℕ) → Status → Type 0
 RunEnds wrong left faults order contents sources opening opening_now writing writing_now status =
-    Ends (words order sources ∷ opens left faults contents sources opening opening_now ∷ counts wrong left faults contents sources
+    Ends (words order sources ∷ opens left faults contents sources opening opening_now ∷ counts (length contents) contents
     ∷ inputs wrong left faults contents sources ∷ writes writing writing_now ∷ []) status
 
 module _ {S : Type 0} (wrong : List ℕ → Option LineWhy) (left : S → ExposedBytes) (faults : S → ℕ) where
-  -- a job that has read all files passes its two stages
-  pub job_read : (contents : List ExposedBytes) (sources : List S) (later : List Stage) (status : Status)
-      → AllRead wrong left faults contents sources → Ends later status
-      → Ends (counts wrong left faults contents sources ∷ inputs wrong left faults contents sources ∷ later) status
-  job_read contents sources later status read ends =
-      passed (counts wrong left faults contents sources) (inputs wrong left faults contents sources ∷ later) status tt (passed (inputs wrong left faults contents sources) later status read ends)
+  module _ (ranks : ℕ) (contents : List ExposedBytes) (sources : List S) (later : List Stage) (status : Status) where
+    -- a job that has read all files passes its two stages
+    pub job_read : AllRead wrong left faults contents sources → Ends later status
+        → Ends (counts ranks contents ∷ inputs wrong left faults contents sources ∷ later) status
+    job_read read ends =
+        passed (counts ranks contents) (inputs wrong left faults contents sources ∷ later) status tt (passed (inputs wrong left faults contents sources) later status read ends)
 
-  -- a job that stops ends at one of them
-  pub job_stopped : (contents : List ExposedBytes) (sources : List S) (later : List Stage) (fault : JobFault) (status : Status)
-      → status ≡ status_of fault → JobStops wrong left faults contents sources fault
-      → Ends (counts wrong left faults contents sources ∷ inputs wrong left faults contents sources ∷ later) status
-  job_stopped contents sources later (JobInput rank found) status same stops = inr (inr (tt, inl (rank, found, same, stops)))
-  job_stopped contents sources later (JobFull rank at) status same stops = inr (inl (rank, at, same, stops))
-  job_stopped contents sources later JobNoMemory status same stops = inl same
+    -- a job that stops ends at one of them
+    pub job_stopped : (fault : JobFault) → status ≡ status_of fault → JobStops wrong left faults ranks contents sources fault
+        → Ends (counts ranks contents ∷ inputs wrong left faults contents sources ∷ later) status
+    job_stopped (JobFull rank at) same stops = inr (inl (rank, at, same, stops))
+    job_stopped (JobRead rank) same stops = inr (inr (tt, inl (rank, Read, same, stops)))
+    job_stopped (JobBad rank line why) same stops = inr (inr (tt, inl (rank, Bad line why, same, stops)))
+    job_stopped JobNoMemory same stops = inl same
 
-  -- a job ends so over the same files and sources
-  pub job_over : (contents others : List ExposedBytes) (sources after : List S) (later : List Stage) (status : Status) → others ≡ contents
-      → after ≡ sources
-      → Ends (counts wrong left faults others after ∷ inputs wrong left faults others after ∷ later) status
-      → Ends (counts wrong left faults contents sources ∷ inputs wrong left faults contents sources ∷ later) status
-  job_over contents others sources after later status same at ends =
-      subst (λ hs. Ends (counts wrong left faults hs sources ∷ inputs wrong left faults hs sources ∷ later) status) same
-      (subst (λ xs. Ends (counts wrong left faults others xs ∷ inputs wrong left faults others xs ∷ later) status) at ends)
+  -- a job ends so over the same files
+  pub job_over : (ranks among : ℕ) (contents others : List ExposedBytes) (sources : List S) (later : List Stage) (status : Status)
+      → among ≡ ranks → others ≡ contents
+      → Ends (counts among others ∷ inputs wrong left faults others sources ∷ later) status
+      → Ends (counts ranks contents ∷ inputs wrong left faults contents sources ∷ later) status
+  job_over ranks among contents others sources later status same over ends =
+      subst (λ k. Ends (counts k contents ∷ inputs wrong left faults contents sources ∷ later) status) same
+      (subst (λ hs. Ends (counts among hs ∷ inputs wrong left faults hs sources ∷ later) status) over ends)
 
   -- the words were accepted, and name these files
   pub accepted : (order : Result (List (List ℕ)) UsageKind) (names : List (List ℕ)) (content : List ℕ → ExposedBytes) (sources : List S)

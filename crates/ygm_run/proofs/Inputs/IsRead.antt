@@ -9,29 +9,24 @@ use Rattle.ygm_io.specs.Content.{ExposedBytes, TakenFrom}
 use Rattle.ygm_run.specs.declared.status.InputFault.{InputFault}
 use Rattle.ygm_run.specs.declared.status.InputFault.TheVariants.{Read, Bad}
 use Rattle.ygm_run.specs.BadLines.{first_wrong, tally_wrong}
-use Rattle.ygm_run.specs.Fed.{EndedWith, LinesTaken, StopsAtPiece}
+use Rattle.ygm_run.specs.ReadLines.{EndedWith, LinesTaken}
 use Rattle.ygm_run.specs.Inputs.{IsRead}
 use Rattle.world_core.specs.Limits.{most_letters}
 use Rattle.ygm_run.specs.Limits.{max_line}
 use Rattle.ygm_run.specs.Lines.{ended_lines, raw_lines, first_too_long}
 use Rattle.ygm_run.specs.Reading.{Reading}
 use Rattle.ygm_run.specs.Turns.{to_come}
-use Rattle.ygm_run.proofs.Fed.LinesTaken.{all_given, front_read, too_long_given}
+use Rattle.ygm_run.proofs.ReadLines.LinesTaken.{all_given, front_read, too_long_given}
 use Rattle.ygm_run.proofs.Inputs.GoodLines.{few_good, good_below}
 use Rattle.ygm_run.proofs.Inputs.TallyWrong.{first_wrong_of, none_wrong, too_long_at}
 use Rattle.ygm_run.proofs.Lines.FirstTooLong.{none_too_long_of}
-
--- of a reader that isn't done, everything holds of how it ended
-pub not_ended : (fault : Option InputFault) (reader : Reading) (left : ExposedBytes) (faults faults_now : ℕ) → reader.done ≡ false
-    → reader.done ≡ true → EndedWith fault reader left faults faults_now
-not_ended fault reader left faults faults_now going done = absurd (false≢true (sym going ∙ done))
 
 -- How a file was read, once its reading has ended.
 pub was_read : {S : Type 0} (left : S → ExposedBytes) (faults : S
     → ℕ) (raws : List (List ℕ)) (reader : Reading) (before : ExposedBytes) (source : S) (fault : Option InputFault)
     → AllByRecursion (λ raw. length raw ≤ max_line) raws
     → LinesTaken raws before (to_come reader.held (left source)) → reader.given ≡ length raws → reader.given ≤ most_letters
-    → EndedWith fault reader (left source) 0 (faults source)
+    → EndedWith fault reader (left source) (faults source)
     → IsRead tally_wrong left faults before source fault
 was_read left faults raws reader before source None short taken given bound ended = record {
   read = ((λ e. absurd cc), (λ lt. absurd (omega (arith, lt, ended.2))));
@@ -62,14 +57,3 @@ was_read left faults raws reader before source (Some (Bad line why)) short taken
 } where
   bad_line_is : IfSome before (λ bytes. Some line ≡ first_too_long (raw_lines bytes))
   bad_line_is = subst (λ k. IfSome before (λ bytes. Some k ≡ first_too_long (raw_lines bytes))) (omega (arith, given, ended.2)) (too_long_given raws reader.held before (left source) short taken ended.0)
-
--- A file with a bad line was read no further than the piece that made the line bad.
-pub stopped_at_piece : (raws : List (List ℕ)) (reader : Reading) (before left : ExposedBytes) (faults : ℕ) (fault : Option InputFault)
-    → AllByRecursion (λ raw. length raw ≤ max_line) raws
-    → LinesTaken raws before (to_come reader.held left) → EndedWith fault reader left 0 faults → StopsAtPiece tally_wrong before left fault
-stopped_at_piece raws reader before left faults None short taken ended line why e = absurd cc
-stopped_at_piece raws reader before left faults (Some Read) short taken ended line why e = absurd cc
-stopped_at_piece raws reader before left faults (Some (Bad found reason)) short taken ended line why e =
-    let last = ended.5 in
-    let f = front_read raws ended.4 last.piece reader.held before left last.behind last.partial last.short short taken in
-    (f.0, last.piece, last.one, f.1, none_wrong (raw_lines f.0) f.2)

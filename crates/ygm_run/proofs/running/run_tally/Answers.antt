@@ -30,6 +30,6 @@ returns-clause-ends g c =
     let same : length after ≡ length start = omega (arith, c.finish-status.auto.sources, ap length c.deref_mut.ensures.value) in
     let whole = written_back c.open_all.new.sources.len after start long same in
     let held = ap (map left) c.deref_mut.ensures.value ∙ c.open_all.ensures.opened ∙ ap (map content) (take_all (length start) names (omega (arith, opened.0, length-map names content))) in
-    passed (opens left faults contents _ (g.F.Files.faults c.args.files.now) (g.F.Files.faults c.open_all.new.files)) (counts tally_wrong left faults contents _ ∷ inputs tally_wrong left faults contents _ ∷ last ∷ []) c.finish-status.result
+    passed (opens left faults contents _ (g.F.Files.faults c.args.files.now) (g.F.Files.faults c.open_all.new.files)) (counts (length contents) contents ∷ inputs tally_wrong left faults contents _ ∷ last ∷ []) c.finish-status.result
     (ap length whole ∙ same ∙ opened.0, opened.1)
     (job_over tally_wrong left faults contents (map left c.deref_mut.result.now) _ after (last ∷ []) c.finish-status.result held (sym whole) c.finish-status.ensures.ends)

@@ -1,4 +1,0 @@
-pub mod AllCounted
-pub mod Calls
-pub mod LettersFrom
-pub mod Preserved

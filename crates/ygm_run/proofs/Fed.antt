@@ -1,2 +1,0 @@
-pub mod LinesTaken
-pub mod Steps

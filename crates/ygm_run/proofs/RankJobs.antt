@@ -1,0 +1,3 @@
+pub mod Polled
+pub mod Read
+pub mod Turned

@@ -1,0 +1,1 @@
+-- Polls of a job.

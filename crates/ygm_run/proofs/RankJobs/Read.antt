@@ -1,0 +1,1 @@
+-- Line turns of a job.

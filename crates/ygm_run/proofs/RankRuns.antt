@@ -1,0 +1,4 @@
+pub mod Begun
+pub mod Ended
+pub mod Others
+pub mod Stopped

@@ -1,0 +1,1 @@
+-- The jobs of all ranks of a new world.

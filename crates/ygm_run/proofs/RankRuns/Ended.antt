@@ -1,0 +1,1 @@
+-- What the jobs of all ranks come to, once all have finished.

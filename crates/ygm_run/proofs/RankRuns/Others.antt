@@ -1,0 +1,1 @@
+-- What happens to one rank leaves the jobs of the others as they are.

@@ -1,0 +1,2 @@
+pub mod FullFile
+pub mod LinesTaken

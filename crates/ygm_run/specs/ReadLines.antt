@@ -1,0 +1,42 @@
+-- Only private functions cite this: the lines that were read of a file, and how its reading ended.
+use Rattle.std.specs.Prelude.{◌≡◌, ℕ, ◌+◌, ◌<◌, ◌≤◌, List, [], ◌++◌, Option, None, Some, IfSome, length}
+use Rattle.std.specs.List.{AllByRecursion}
+use Rattle.ygm_io.specs.Content.{ExposedBytes, TakenFrom, NothingLeft}
+use Rattle.world_core.specs.Limits.{most_letters}
+use Rattle.ygm_run.specs.declared.status.InputFault.{InputFault}
+use Rattle.ygm_run.specs.declared.status.InputFault.TheVariants.{Read, Bad}
+use Rattle.ygm_run.specs.declared.status.LineWhy.TheVariants.{TooLong}
+use Rattle.ygm_run.specs.Limits.{max_line}
+use Rattle.ygm_run.specs.Lines.{lines_of, raw_lines, LacksLf, StartsTooLong}
+use Rattle.ygm_run.specs.Reading.{Reading}
+use Rattle.ygm_run.specs.Turns.{RawLineTaken, to_come}
+
+-- These raw lines were taken, the first ones. They come before the raw lines of any prefix of what is still to come.
+pub record LinesTaken (raws : List (List ℕ)) (before now : ExposedBytes) : Type 0 where
+  pub bytes : List ℕ
+  pub taken : TakenFrom bytes before now
+  pub lines : (front later : List ℕ) → now ≡ Some (front ++ later) → raw_lines (bytes ++ front) ≡ raws ++ raw_lines front
+
+-- These raw lines of a file were read, its first ones, and none is too long. `content` is what the file had at first, and
+-- `left` what remains of it.
+pub record HasReadLines (content : ExposedBytes) (reader : Reading) (left : ExposedBytes) (raws : List (List ℕ)) : Type 0 where
+  pub taken : LinesTaken raws content (to_come reader.held left)
+  pub short : AllByRecursion (λ raw. length raw ≤ max_line) raws
+  pub given : reader.given ≡ length raws
+
+-- Why the reading of a file ended: all of it was read, a read failed while no bad line was held, or the next line is too
+-- long. `faults` is the count of faults of its source, which was 0 at first.
+abbrev pub EndedWith : Option InputFault → Reading → ExposedBytes → ℕ → Type 0
+EndedWith None reader left faults = (reader.held ≡ []) × NothingLeft left × (faults ≡ 0)
+EndedWith (Some Read) reader left faults = (0 < faults) × LacksLf reader.held × (length reader.held ≤ max_line)
+EndedWith (Some (Bad line why)) reader left faults =
+    IfSome (to_come reader.held left) StartsTooLong × (why ≡ TooLong) × (line ≡ reader.given + 1) × (faults ≡ 0)
+
+-- A count of letters is full at this limit, by the lines of a file: it has more lines than a rank may send letters.
+pub record IsFullFile (content : ExposedBytes) (limit : ℕ) : Type 0 where
+  pub limit_is : limit ≡ most_letters
+  pub lines : IfSome content (λ bytes. most_letters < length (lines_of bytes))
+
+-- a line is to come that isn't too long
+abbrev pub HasLine : ExposedBytes → Type 0
+HasLine bytes = (text : List ℕ) × (rest : ExposedBytes) × RawLineTaken text bytes rest
