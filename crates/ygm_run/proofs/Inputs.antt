@@ -1,3 +1,4 @@
+pub mod AllRead
 pub mod AreRests
 pub mod GoodLines
 pub mod IsRead

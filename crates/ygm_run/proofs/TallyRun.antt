@@ -1,4 +1,5 @@
 pub mod AllLines
 pub mod OwnLetters
+pub mod Run
 pub mod Shards
 pub mod Tests

@@ -5,13 +5,21 @@ ghost use Rattle.ygm_route.specs.Layout.{max_ranks};
 ghost use Rattle.world_core.specs.Limits.{most_letters};
 ghost use Rattle.counting_set.specs.Counting.{Counts};
 ghost use Rattle.ygm_run.specs.Limits.{max_line};
-ghost use Rattle.ygm_run.specs.TallyRun.{CountLines, IsTally, own_letters};
+ghost use Rattle.ygm_run.specs.TallyRun.{CountLines, IsTally, IsTallyRun, own_letters};
 ghost use Rattle.ygm_run.specs.TallyText.{AreCounts, IsTableOf, all_lines, tally_text};
 
 /// One letter for each line, to the owner of the line, counts the lines.
 pub fn a_letter_for_each_line_counts_lines()
     ensures { (ranks here : ℕ) (lines : List (List ℕ)) → All (λ line. length line ≤ max_line) lines →
         CountLines ranks lines (own_letters ranks here lines) }
+{}
+
+/// Where no line is too long, a complete run of tally is a tally: counting gives no letters, so what arrived are the letters
+/// of the lines.
+pub fn a_complete_run_is_a_tally()
+    ensures { (ranks : ℕ) (files : List (List (List ℕ))) (shards : List Counts) →
+        All (λ lines. All (λ line. length line ≤ max_line) lines) files →
+        IsTallyRun ranks files shards → IsTally ranks files shards }
 {}
 
 /// Where no rank has more lines than it may send letters, no count of lines gets to its limit.
