@@ -3,15 +3,20 @@ use crate::ending_laws::only_memory_can_run_out;
 use crate::limit_laws::the_limits_are_these_numbers;
 use crate::line_laws::{lines_end_at_lf, one_cr_is_dropped, the_first_bad_line};
 use crate::run;
+use crate::run_job::{JobFault, JobKind, Settings, run_job};
 use crate::status::{Ended, LineWhy, Status};
-use crate::tally_text::{each_line_has_its_row, one_table, order_is_free};
+use crate::tally_text::{
+    each_line_has_its_row, one_table, order_is_free, text_of as text_of_shards,
+};
 use crate::verdict_laws::the_verdict_is_the_lowest_bad_line_or_the_text;
 use crate::words::UsageKind;
 use crate::words_laws::{the_refusal_is_the_first_that_holds, words_that_are_accepted};
 use std::alloc::{AllocError, Global};
 use std::process::Abort;
+use std::sync::Wait;
 use std::test::Fail;
 use ygm_io::{CalmFiles, CalmSink, MemFiles, MemSink, MemSource};
+use ygm_route::{Layout, Scheme};
 
 // What a run over objects in memory ends with.
 #[derive(Drop)]
@@ -41,13 +46,17 @@ fn run_into(
     let words = words_of(alloc, texts)?;
     let mut out = MemSink::new(alloc, fails, 3)?;
     let mut notes = MemSink::new(alloc, &[], 1000)?;
-    let ended = run(alloc, &words, files, &mut out, &mut notes);
+    let ended = run(rt, alloc, &words, files, &mut out, &mut notes);
     Ok(Outcome { ended, out, notes })
 }
 
 // A run over these files, whose output doesn't fail.
-fn run_over(alloc: Global, files: &mut MemFiles, texts: &[&str]) -> Result<Outcome, AllocError> {
-    run_into(alloc, files, texts, &[])
+fn run_over(
+    rt: &(impl Wait + AllocGlobal),
+    files: &mut MemFiles,
+    texts: &[&str],
+) -> Result<Outcome, AllocError> {
+    run_into(rt, files, texts, &[])
 }
 
 // The status of a run in which this line is too long, and no rank below has a fault.
@@ -60,7 +69,7 @@ fn too_long(rank: u32, line: u64) -> Status {
 }
 
 // The text of a run over files that hold these bytes.
-fn text_of(rt: &(impl Abort + AllocGlobal), contents: &[&[u8]], text: &[u8]) -> Result<(), Fail> {
+fn text_of(rt: &(impl Abort + Wait + AllocGlobal), contents: &[&[u8]], text: &[u8]) -> Result<(), Fail> {
     let names = ["f0", "f1", "f2"];
     let mut files = MemFiles::new(rt.alloc());
     let mut texts = Vec::new(rt.alloc());
@@ -69,7 +78,7 @@ fn text_of(rt: &(impl Abort + AllocGlobal), contents: &[&[u8]], text: &[u8]) -> 
         files.add(name, bytes, &[])?;
         texts.push(*name)?;
     }
-    let outcome = run_over(rt.alloc(), &mut files, &texts)?;
+    let outcome = run_over(rt, &mut files, &texts)?;
     assert_eq!(rt; outcome.ended.status, Status::Done);
     assert_eq!(rt; outcome.ended.sources.len(), contents.len());
     assert_eq!(rt; outcome.out.bytes(), text);
@@ -118,9 +127,52 @@ fn calm_files_are_counted(rt: HostRuntime) -> Result<(), Fail> {
     let words = words_of(rt.alloc(), &["tally", "f0", "f1"])?;
     let mut out = MemSink::new(rt.alloc(), &[], 3)?;
     let mut notes = CalmSink::new();
-    let ended = run(rt.alloc(), &words, &mut files, &mut out, &mut notes);
+    let ended = run(&rt, rt.alloc(), &words, &mut files, &mut out, &mut notes);
     assert_eq!(rt; ended.status, Status::Done);
     assert_eq!(rt; out.bytes(), b"2\ta\n3\tb\n".as_slice());
+    Ok(())
+}
+
+// The layout of so many ranks, each on a node of its own.
+fn layout_of(ranks: u32) -> Result<Layout, Fail> {
+    let Ok(layout) = Layout::new(ranks, 1) else {
+        return Err(Fail);
+    };
+    Ok(layout)
+}
+
+#[test]
+fn a_rank_without_a_file_reads_nothing(rt: HostRuntime) -> Result<(), Fail> {
+    let alloc = rt.alloc();
+    let settings = Settings {
+        kind: JobKind::Tally,
+        layout: layout_of(3)?,
+        scheme: Scheme::Direct,
+    };
+    let sources = vec![in alloc; MemSource::new(alloc, b"b\na\nb\n", &[])?]?;
+    let ran = run_job(&rt, alloc, &settings, sources);
+    let Ok(shards) = ran.outcome else {
+        return Err(Fail);
+    };
+    assert_eq!(rt; shards.len(), 3);
+    assert_eq!(rt; text_of_shards(alloc, &shards)?.as_slice(), b"1\ta\n2\tb\n".as_slice());
+    assert_eq!(rt; ran.sources.len(), 1);
+    assert_eq!(rt; ran.sources[0].left(), b"".as_slice());
+    Ok(())
+}
+
+#[test]
+fn a_job_ends_with_the_fault_of_an_input(rt: HostRuntime) -> Result<(), Fail> {
+    let alloc = rt.alloc();
+    let settings = Settings {
+        kind: JobKind::Tally,
+        layout: layout_of(2)?,
+        scheme: Scheme::Direct,
+    };
+    let sources = vec![in alloc; MemSource::new(alloc, b"b\na\nb\n", &[0])?]?;
+    let ran = run_job(&rt, alloc, &settings, sources);
+    assert_eq!(rt; ran.outcome.err(), Some(JobFault::Read { rank: 0 }));
+    assert_eq!(rt; ran.sources[0].left(), b"b\na\nb\n".as_slice());
     Ok(())
 }
 
@@ -135,7 +187,7 @@ fn two_files(alloc: Global, fails: &[u64]) -> Result<MemFiles, AllocError> {
 #[test]
 fn a_job_without_files_is_refused(rt: HostRuntime) -> Result<(), Fail> {
     let alloc = rt.alloc();
-    let outcome = run_over(alloc, &mut two_files(alloc, &[])?, &["tally"])?;
+    let outcome = run_over(&rt, &mut two_files(alloc, &[])?, &["tally"])?;
     let kind = UsageKind::NoFile;
     assert_eq!(rt; outcome.ended.status, Status::Usage { kind });
     assert_eq!(rt; outcome.ended.status.number(), 1);
@@ -149,7 +201,7 @@ fn a_job_without_files_is_refused(rt: HostRuntime) -> Result<(), Fail> {
 fn a_read_that_fails_is_reported_with_its_rank(rt: HostRuntime) -> Result<(), Fail> {
     let alloc = rt.alloc();
     let mut files = two_files(alloc, &[0])?;
-    let outcome = run_over(alloc, &mut files, &["tally", "f0", "f1"])?;
+    let outcome = run_over(&rt, &mut files, &["tally", "f0", "f1"])?;
     assert_eq!(rt; outcome.ended.status, Status::ReadFault { rank: 1 });
     assert_eq!(rt; outcome.ended.status.number(), 3);
     assert_eq!(rt; outcome.ended.sources.len(), 2);
@@ -166,7 +218,7 @@ fn a_read_that_fails_is_reported_with_its_rank(rt: HostRuntime) -> Result<(), Fa
 fn a_write_that_fails_leaves_the_front_of_the_text(rt: HostRuntime) -> Result<(), Fail> {
     let alloc = rt.alloc();
     let mut files = two_files(alloc, &[])?;
-    let outcome = run_into(alloc, &mut files, &["tally", "f0", "f1"], &[1])?;
+    let outcome = run_into(&rt, &mut files, &["tally", "f0", "f1"], &[1])?;
     assert_eq!(rt; outcome.ended.status, Status::WriteFault);
     assert_eq!(rt; outcome.ended.status.number(), 5);
     assert_eq!(rt; outcome.ended.sources.len(), 2);
@@ -184,7 +236,7 @@ fn an_open_that_fails_is_the_last(rt: HostRuntime) -> Result<(), Fail> {
     let mut files = two_files(alloc, &[])?;
     files.add("f2", b"c\n", &[])?;
     files.fail_open(1)?;
-    let outcome = run_over(alloc, &mut files, &["tally", "f0", "nowhere", "f2"])?;
+    let outcome = run_over(&rt, &mut files, &["tally", "f0", "nowhere", "f2"])?;
     assert_eq!(rt; outcome.ended.status, Status::OpenFault { file: 1 });
     assert_eq!(rt; outcome.ended.status.number(), 2);
     assert_eq!(rt; outcome.ended.sources.len(), 1);
@@ -202,20 +254,20 @@ fn a_line_of_a_million_bytes_and_one_is_bad(rt: HostRuntime) -> Result<(), Fail>
     let alloc = rt.alloc();
     let mut files = MemFiles::new(alloc);
     files.add("f0", &vec![in alloc; b'x'; 1_000_001]?, &[])?;
-    let outcome = run_over(alloc, &mut files, &["tally", "f0"])?;
+    let outcome = run_over(&rt, &mut files, &["tally", "f0"])?;
     assert_eq!(rt; outcome.ended.status, too_long(0, 1));
     assert_eq!(rt; outcome.ended.status.number(), 4);
     Ok(())
 }
 
 // A run over three files whose opens of these numbers fail ends at the file of the first, and fails but once.
-fn ends_at(rt: &(impl Abort + AllocGlobal), fails: &[u64], file: u32) -> Result<(), Fail> {
+fn ends_at(rt: &(impl Abort + Wait + AllocGlobal), fails: &[u64], file: u32) -> Result<(), Fail> {
     let mut files = two_files(rt.alloc(), &[])?;
     files.add("f2", b"c\n", &[])?;
     for call in fails {
         files.fail_open(*call)?;
     }
-    let outcome = run_over(rt.alloc(), &mut files, &["tally", "f0", "f1", "f2"])?;
+    let outcome = run_over(rt, &mut files, &["tally", "f0", "f1", "f2"])?;
     assert_eq!(rt; outcome.ended.status, Status::OpenFault { file });
     assert_eq!(rt; outcome.ended.sources.len(), file as usize);
     assert_eq!(rt; files.faults(), 1);
@@ -229,10 +281,10 @@ fn no_open_is_tried_after_the_first_that_fails(rt: HostRuntime) -> Result<(), Fa
 }
 
 // A run over two files of which these reads of the second fail ends so. Its third open is to fail, and none does.
-fn opened_once(rt: &(impl Abort + AllocGlobal), fails: &[u64], status: Status) -> Result<(), Fail> {
+fn opened_once(rt: &(impl Abort + Wait + AllocGlobal), fails: &[u64], status: Status) -> Result<(), Fail> {
     let mut files = two_files(rt.alloc(), fails)?;
     files.fail_open(2)?;
-    let outcome = run_over(rt.alloc(), &mut files, &["tally", "f0", "f1"])?;
+    let outcome = run_over(rt, &mut files, &["tally", "f0", "f1"])?;
     assert_eq!(rt; outcome.ended.status, status);
     assert_eq!(rt; outcome.ended.sources.len(), 2);
     assert_eq!(rt; files.faults(), 0);
@@ -252,7 +304,7 @@ fn no_read_is_tried_behind_a_bad_line(rt: HostRuntime) -> Result<(), Fail> {
     bytes.extend_from_slice(&vec![in alloc; b'\n'; 100_000]?)?;
     let mut files = MemFiles::new(alloc);
     files.add("f0", &bytes, &[16])?;
-    let outcome = run_over(alloc, &mut files, &["tally", "f0"])?;
+    let outcome = run_over(&rt, &mut files, &["tally", "f0"])?;
     assert_eq!(rt; outcome.ended.status, too_long(0, 1));
     assert_eq!(rt; outcome.ended.sources.len(), 1);
     assert_eq!(rt; outcome.ended.sources[0].faults(), 0);
@@ -263,7 +315,7 @@ fn no_read_is_tried_behind_a_bad_line(rt: HostRuntime) -> Result<(), Fail> {
 #[test]
 fn no_read_is_tried_behind_one_that_failed(rt: HostRuntime) -> Result<(), Fail> {
     let mut files = two_files(rt.alloc(), &[0, 1])?;
-    let outcome = run_over(rt.alloc(), &mut files, &["tally", "f0", "f1"])?;
+    let outcome = run_over(&rt, &mut files, &["tally", "f0", "f1"])?;
     assert_eq!(rt; outcome.ended.status, Status::ReadFault { rank: 1 });
     assert_eq!(rt; outcome.ended.sources.len(), 2);
     assert_eq!(rt; outcome.ended.sources[0].left(), b"".as_slice());
@@ -285,7 +337,7 @@ fn the_fault_of_the_lowest_rank_is_reported_and_the_others_read_on(
     files.add("f2", b"a\n", &[0])?;
     files.add("f3", b"a\n", &[])?;
     let words = ["tally", "f0", "f1", "f2", "f3"];
-    let outcome = run_over(alloc, &mut files, &words)?;
+    let outcome = run_over(&rt, &mut files, &words)?;
     assert_eq!(rt; outcome.ended.status, too_long(1, 2));
     assert_eq!(rt; outcome.ended.sources.len(), 4);
     assert_eq!(rt; outcome.ended.sources[2].faults(), 1);
@@ -305,7 +357,7 @@ fn notes_that_fail_change_no_status(rt: HostRuntime) -> Result<(), Fail> {
     let mut out = MemSink::new(alloc, &[], 3)?;
     let mut notes = MemSink::new(alloc, &[1], 9)?;
     let mut files = two_files(alloc, &[0])?;
-    let ended = run(alloc, &words, &mut files, &mut out, &mut notes);
+    let ended = run(&rt, alloc, &words, &mut files, &mut out, &mut notes);
     assert_eq!(rt; ended.status, Status::ReadFault { rank: 0 });
     assert_eq!(rt; notes.bytes(), b"ygm_run: ".as_slice());
     Ok(())

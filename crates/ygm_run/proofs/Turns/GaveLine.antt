@@ -11,7 +11,7 @@ use Rattle.ygm_run.specs.Reading.{Reading}
 use Rattle.ygm_run.specs.Turns.{to_come, lines_to_come, FirstTaken, GaveLine, RawLineTaken, IfLine}
 use Rattle.ygm_run.specs.declared.line_reader.Got.{Got}
 use Rattle.ygm_run.specs.declared.line_reader.Got.TheVariants.{Line}
-use Rattle.ygm_run.proofs.Fed.LinesTaken.{line_cut, text_cut}
+use Rattle.ygm_run.proofs.ReadLines.LinesTaken.{line_cut, text_cut}
 use Rattle.ygm_run.proofs.Turns.ToCome.{all_taken, left_stands, lines_from_to_come, nothing_to_come, to_come-read}
 
 cut_at_lf : (bytes text held : List ℕ) (left : ExposedBytes) (line : StartsWithLine bytes text held) → TakenFrom (line.raw ++ 10 ∷ []) (to_come bytes left) (to_come held left)
