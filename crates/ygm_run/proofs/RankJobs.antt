@@ -1,3 +1,4 @@
+pub mod OneMore
 pub mod Polled
 pub mod Read
 pub mod Turned

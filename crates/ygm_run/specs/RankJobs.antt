@@ -64,7 +64,8 @@ pub record HasReadOn (old new : JobState) (one me : Rank Counts) (left left_now 
       → HasReadLines content old.reader left earlier → HasReadLines content new.reader left_now (earlier ++ raws)
   pub sent : HasSentLines one me raws
   pub going_on : new.reader.done ≡ false → (new.fault ≡ old.fault) × (faults_now ≡ faults)
-  pub ended : new.reader.done ≡ true → faults ≡ 0 → old.fault ≡ None → EndedWith new.fault new.reader left_now faults_now
+  pub ended : new.reader.done ≡ true → faults ≡ 0 → old.fault ≡ None → old.reader.given ≤ most_letters
+      → EndedWith new.fault new.reader left_now faults_now
 
 -- A line is to come for which the rank may send no letter, since its count of letters is full, at this limit.
 pub record FullAtLine (me : Rank Counts) (reader : Reading) (left : ExposedBytes) (limit : ℕ) : Type 0 where

@@ -1,1 +1,151 @@
 -- Line turns of a job.
+use Rattle.std.proofs.Common.{◌≡◌, ℕ, ◌+◌, ◌<◌, ◌≤◌, Bool, true, false, List, [], ◌∷◌, ◌++◌, Option, None, Some, IfSome, length, map, refl, sym, ap, ◌∙◌, subst, arith, length-append}
+use Rattle.std.specs.List.{AllByRecursion}
+use Rattle.std.proofs.lemmas.List.{append-nil, length-map, map-append}
+use Rattle.std.proofs.lemmas.Option.{IfSome_then}
+use Rattle.list_facts.proofs.Elements.{all_append}
+use Rattle.ygm_io.specs.Content.{ExposedBytes}
+use Rattle.ygm_io.specs.Rising.{next_count}
+use Rattle.world_core.specs.declared.entry.Entry.{Entry}
+use Rattle.world_core.specs.Limits.{most_letters}
+use Rattle.world_core.specs.Post.{PostState}
+use Rattle.comm_rank.specs.declared.fault.CommFault.{CommFault}
+use Rattle.comm_rank.specs.declared.fault.CommFault.TheVariants.{CountFull, NoMemory, Stopped}
+use Rattle.comm_rank.specs.Agrees.{Agrees}
+use Rattle.comm_rank.specs.Fault.{IfCountFull}
+use Rattle.comm_rank.specs.Rank.{Rank}
+use Rattle.counting_set.specs.Counting.{Counts, add_letter, counting_apply}
+use Rattle.counting_set.specs.Owner.{owner_of_key}
+use Rattle.term_barrier.specs.Account.{with_more}
+use Rattle.term_barrier.specs.Barriers.{BarrierState}
+use Rattle.term_barrier.specs.Carried.{Carries}
+use Rattle.term_barrier.proofs.Carried.Outside.{carries_entered, carries_sent}
+use Rattle.term_barrier.proofs.Carried.Same.{carries_same}
+use Rattle.ygm_run.specs.Limits.{max_line}
+use Rattle.ygm_run.specs.Lines.{lines_of, raw_lines, text_of}
+use Rattle.ygm_run.specs.RankJobs.{FullAtLine, HasReadOn, HasSentLines, InJob, JobState, KeepsJob, left_in}
+use Rattle.ygm_run.specs.Reading.{Reading}
+use Rattle.ygm_run.specs.ReadLines.{HasReadLines, IsFullFile}
+use Rattle.ygm_run.specs.TallyRun.{tally_letters}
+use Rattle.ygm_run.specs.Turns.{RawLineTaken, to_come}
+use Rattle.ygm_run.proofs.Inputs.GoodLines.{few_good}
+use Rattle.ygm_run.proofs.RankJobs.OneMore.{one_line_more}
+use Rattle.ygm_run.proofs.ReadLines.FullFile.{many_good}
+use Rattle.ygm_run.proofs.ReadLines.LinesTaken.{line_cut, lines_more}
+
+-- ---- what the reader did
+
+-- a line was taken
+pub read_line : (text : List ℕ) (old new : Reading) (left left_now : ExposedBytes) (line : RawLineTaken text (to_come old.held left) (to_come new.held left_now)) →
+    new.given ≡ next_count old.given → (content : ExposedBytes) (earlier : List (List ℕ)) → length earlier ≤ most_letters →
+    HasReadLines content old left earlier → HasReadLines content new left_now (earlier ++ line.raw ∷ [])
+read_line text old new left left_now line counted content earlier few was = record {
+  taken =
+      lines_more earlier (line.raw ∷ []) content (to_come old.held left) (to_come new.held left_now) was.taken
+      (line_cut line.raw (to_come old.held left) (to_come new.held left_now) line.partial line.cut);
+  short = all_append (λ raw. length raw ≤ max_line) earlier (line.raw ∷ []) was.short (line.short, tt);
+  given = omega (arith, counted, was.given, few, length-append earlier (line.raw ∷ []));
+}
+
+-- no line was taken
+pub read_nothing : (old new : Reading) (left left_now : ExposedBytes) → to_come new.held left_now ≡ to_come old.held left → new.given ≡ old.given →
+    (content : ExposedBytes) (earlier : List (List ℕ)) → HasReadLines content old left earlier → HasReadLines content new left_now (earlier ++ [])
+read_nothing old new left left_now stands same content earlier was = rw (append-nil earlier) (record {
+  taken = rw stands was.taken;
+  short = was.short;
+  given = same ∙ was.given;
+})
+
+-- ---- what the job keeps
+
+-- the rank has entered its barrier, or it is still outside
+entered_if : (own : ℕ → ℕ → List _) (rounds : ℕ → ℕ) (barrier : BarrierState) (me : Rank Counts) (post : PostState) (ended : Bool) → barrier.inside ≡ false →
+    Carries counting_apply (λ _. []) own rounds barrier me post → Carries counting_apply (λ _. []) own rounds (record barrier { inside = ended }) me post
+entered_if own rounds barrier me post true outside carries = carries_entered counting_apply (λ _. []) own rounds barrier me post carries
+entered_if own rounds barrier me post false outside carries =
+    subst (λ b. Carries counting_apply (λ _. []) own rounds (record barrier { inside = b }) me post) outside carries
+
+module _ (barrier : BarrierState) (post : PostState) (outside : barrier.inside ≡ false) (first : barrier.left ≡ 0) (rounds : ℕ → ℕ)
+    (one me : Rank Counts) (agrees : (log : List Entry) → Agrees counting_apply (λ _. []) one log → Agrees counting_apply (λ _. []) me log) where
+  carries_lines : (earlier raws : List (List ℕ)) → HasSentLines one me raws →
+      Carries counting_apply (λ _. []) (tally_letters one.layout.ranks one.here (map text_of earlier)) rounds barrier one post →
+      Carries counting_apply (λ _. []) (tally_letters me.layout.ranks me.here (map text_of (earlier ++ raws))) rounds barrier me post
+  carries_lines earlier [] sent carries = rw (sent, append-nil earlier) carries
+  carries_lines earlier (raw ∷ []) sent carries =
+      let sends = sent.1 in
+      let lines = map text_of earlier in
+      let own = tally_letters one.layout.ranks one.here lines in
+      let letters = add_letter (owner_of_key (text_of raw) one.layout.ranks) one.here (text_of raw) ∷ [] in
+      let all = earlier ++ raw ∷ [] in
+      carries_same counting_apply (λ _. []) (with_more one.here own barrier.left letters) (tally_letters me.layout.ranks me.here (map text_of all)) rounds rounds barrier me post
+      (λ k to.
+          ap (λ (r : Rank Counts). tally_letters r.layout.ranks r.here (map text_of all) k to) sends.rank
+          ∙ ap (λ w. tally_letters one.layout.ranks one.here w k to) (map-append text_of earlier (raw ∷ []))
+          ∙ one_line_more one.layout.ranks one.here lines (text_of raw) k to
+          ∙ ap (λ n. with_more one.here own n letters k to) (sym first))
+      (λ k lt. refl)
+      (carries_sent counting_apply (λ _. []) own rounds barrier one me _ post outside sends agrees carries)
+  carries_lines earlier (raw ∷ other ∷ raws) sent carries = absurd sent
+
+  -- so many letters were sent, and no more than may be
+  counts_lines : (earlier raws : List (List ℕ)) → HasSentLines one me raws → one.sent_count ≡ length earlier → one.most ≡ most_letters → length earlier ≤ most_letters →
+      (me.sent_count ≡ length (earlier ++ raws)) × (length (earlier ++ raws) ≤ most_letters) × (me.most ≡ most_letters) × (me.stopped ≡ one.stopped)
+  counts_lines earlier [] sent counted most few = rw (sent, append-nil earlier) (counted, few, most, refl)
+  counts_lines earlier (raw ∷ []) sent counted most few =
+      let rank = sent.1.rank in
+      let sums = length-append earlier (raw ∷ []) in (
+        omega (arith, ap (λ (r : Rank Counts). r.sent_count) rank, counted, sums),
+        omega (arith, sent.0, counted, most, sums),
+        ap (λ (r : Rank Counts). r.most) rank ∙ most,
+        ap (λ (r : Rank Counts). r.stopped) rank,
+      )
+  counts_lines earlier (raw ∷ other ∷ raws) sent counted most few = absurd sent
+
+-- after a turn of the reader the rank reads on, or enters its barrier
+pub in_job_read : {S : Type 0} (left : S → ExposedBytes) (faults : S → ℕ) (content : ExposedBytes) (old new : JobState) (one me : Rank Counts)
+    (barrier : BarrierState) (post : PostState) (before now : S) (ended : Bool) → ended ≡ new.reader.done → barrier.inside ≡ false →
+    HasReadOn old new one me (left before) (left now) (faults before) (faults now) →
+    ((log : List Entry) → Agrees counting_apply (λ _. []) one log → Agrees counting_apply (λ _. []) me log) →
+    InJob left faults content old one barrier post (Some before) →
+    InJob left faults content new me (record barrier { inside = ended }) post (Some now)
+in_job_read left faults content old new one me barrier post before now ended is_done outside on agrees was =
+    let keeps = was.keeps in
+    let counts = counts_lines barrier post outside was.first keeps.rounds one me agrees keeps.raws on.raws on.sent keeps.counted keeps.most keeps.few in
+    let reads = was.outside outside in
+    record {
+      keeps = record {
+        raws = keeps.raws ++ on.raws;
+        rounds = keeps.rounds;
+        read = on.read content keeps.raws keeps.few keeps.read;
+        carries =
+            entered_if (tally_letters me.layout.ranks me.here (map text_of (keeps.raws ++ on.raws))) keeps.rounds barrier me post ended outside
+            (carries_lines barrier post outside was.first keeps.rounds one me agrees keeps.raws on.raws on.sent keeps.carries);
+        counted = counts.0;
+        few = counts.1;
+        most = counts.2;
+      };
+      going = counts.3 ∙ was.going;
+      first = was.first;
+      no_source = λ e. absurd cc;
+      outside = λ e.
+          let on_still = on.going_on (sym is_done ∙ e) in
+          (sym is_done ∙ e, on_still.0 ∙ reads.1, on_still.1 ∙ reads.2);
+      inside = λ e. on.ended (sym is_done ∙ e) reads.2 reads.1 (omega (arith, keeps.read.given, keeps.few));
+    }
+
+-- ---- a full count
+
+module _ (content : ExposedBytes) (job : JobState) (me : Rank Counts) (barrier : BarrierState) (post : PostState) (left : ExposedBytes)
+    (was : KeepsJob content job me barrier post left) where
+  full_at : (limit : ℕ) → FullAtLine me job.reader left limit → IsFullFile content limit
+  full_at limit full = record {
+    limit_is = full.limit_is ∙ was.most;
+    lines = IfSome_then content (many_good was.raws content (to_come job.reader.held left) was.read.short was.read.taken full.line)
+        (λ bytes more. omega (arith, more, few_good (raw_lines bytes), length-map text_of (raw_lines bytes), was.counted, full.full, was.most));
+  }
+
+  -- a count that is full at a line is full by the lines of the file
+  pub full_file : (fault : CommFault) → IfCountFull fault (FullAtLine me job.reader left) → IfCountFull fault (IsFullFile content)
+  full_file Stopped full = tt
+  full_file (CountFull at) full = full_at at full
+  full_file NoMemory full = tt
