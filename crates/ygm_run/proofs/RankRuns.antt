@@ -1,4 +1,5 @@
 pub mod Begun
 pub mod Ended
+pub mod First
 pub mod Others
 pub mod Stopped

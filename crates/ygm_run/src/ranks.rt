@@ -122,8 +122,7 @@ impl Ranks {
         ensures all { length sources.new ≡ length sources.old }
     {
         self.run_all(rt, sources);
-        let world = self.links.world();
-        let _ = world;
+        self.links.holds();
         self.outcome(alloc)
     }
 
@@ -169,6 +168,7 @@ impl Ranks {
     // Why ranks stopped, if one did: the lowest whose count is full, or else lack of memory. A rank that met the stop was
     // stopped by another.
     fn stop(&self) -> Option<JobFault>
+        requires few { length self.now.runs.items ≤ max_ranks }
         ensures stopped { IfSome result (IsStop self.now.runs.items) }
         ensures none { IfNone result (NoneStopped self.now.runs.items) }
     {
@@ -191,6 +191,7 @@ impl Ranks {
 
     // The fault of the lowest rank whose input has one, with the rank.
     fn input_fault(&self) -> Option<(u32, InputFault)>
+        requires few { length self.now.runs.items ≤ max_ranks }
         ensures lowest { IfSome result (λ found. IsLowestInput self.now.runs.items found.0 found.1) }
         ensures none { IfNone result (NoFaults self.now.runs.items) }
     {
@@ -206,11 +207,10 @@ impl Ranks {
     fn into_shards(self, alloc: Global) -> Result<Vec<Counting>, AllocError>
         ensures { IfOk result (λ shards. shards.items ≡ map (λ (run : RankRun). run.comm.contents) self.runs.items) }
     {
-        let mut shards = Vec::new(alloc);
-        for run in self.runs {
-            shards.push(run.comm.finish().handler)?;
-        }
-        Ok(shards)
+        self.runs
+            .into_iter()
+            .map(|run| run.comm.finish().handler)
+            .collect(alloc)
     }
 
     // What the jobs came to, once all have ended: what each rank keeps; or a rank that stopped, before any fault of an input;

@@ -3,7 +3,7 @@ use crate::ending_laws::only_memory_can_run_out;
 use crate::limit_laws::the_limits_are_these_numbers;
 use crate::line_laws::{lines_end_at_lf, one_cr_is_dropped, the_first_bad_line};
 use crate::run;
-use crate::run_job::{JobFault, JobKind, Settings, run_job};
+use crate::run_job::{JobFault, JobKind, Ran, Settings, run_job};
 use crate::status::{Ended, LineWhy, Status};
 use crate::tally_text::{
     each_line_has_its_row, one_table, order_is_free, text_of as text_of_shards,
@@ -16,7 +16,7 @@ use std::process::Abort;
 use std::sync::Wait;
 use std::test::Fail;
 use ygm_io::{CalmFiles, CalmSink, MemFiles, MemSink, MemSource};
-use ygm_route::{Layout, Scheme};
+use ygm_route::{Layout, LayoutFault, Scheme};
 
 // What a run over objects in memory ends with.
 #[derive(Drop)]
@@ -133,46 +133,35 @@ fn calm_files_are_counted(rt: HostRuntime) -> Result<(), Fail> {
     Ok(())
 }
 
-// The layout of so many ranks, each on a node of its own.
-fn layout_of(ranks: u32) -> Result<Layout, Fail> {
-    let Ok(layout) = Layout::new(ranks, 1) else {
-        return Err(Fail);
-    };
-    Ok(layout)
+// Tally over so many ranks.
+fn tally_over(ranks: u32) -> Result<Settings, LayoutFault> {
+    Ok(Settings {
+        kind: JobKind::Tally,
+        layout: Layout::new(ranks, 1)?,
+        scheme: Scheme::Direct,
+    })
 }
 
 #[test]
 fn a_rank_without_a_file_reads_nothing(rt: HostRuntime) -> Result<(), Fail> {
     let alloc = rt.alloc();
-    let settings = Settings {
-        kind: JobKind::Tally,
-        layout: layout_of(3)?,
-        scheme: Scheme::Direct,
-    };
     let sources = vec![in alloc; MemSource::new(alloc, b"b\na\nb\n", &[])?]?;
-    let ran = run_job(&rt, alloc, &settings, sources);
-    let Ok(shards) = ran.outcome else {
-        return Err(Fail);
-    };
+    let Ran { outcome, sources } = run_job(&rt, alloc, &tally_over(3)?, sources);
+    assert_eq!(rt; sources.len(), 1);
+    assert_eq!(rt; sources[0].left(), b"".as_slice());
+    let shards = outcome.expect(&rt, "it has shards");
     assert_eq!(rt; shards.len(), 3);
     assert_eq!(rt; text_of_shards(alloc, &shards)?.as_slice(), b"1\ta\n2\tb\n".as_slice());
-    assert_eq!(rt; ran.sources.len(), 1);
-    assert_eq!(rt; ran.sources[0].left(), b"".as_slice());
     Ok(())
 }
 
 #[test]
 fn a_job_ends_with_the_fault_of_an_input(rt: HostRuntime) -> Result<(), Fail> {
     let alloc = rt.alloc();
-    let settings = Settings {
-        kind: JobKind::Tally,
-        layout: layout_of(2)?,
-        scheme: Scheme::Direct,
-    };
     let sources = vec![in alloc; MemSource::new(alloc, b"b\na\nb\n", &[0])?]?;
-    let ran = run_job(&rt, alloc, &settings, sources);
-    assert_eq!(rt; ran.outcome.err(), Some(JobFault::Read { rank: 0 }));
-    assert_eq!(rt; ran.sources[0].left(), b"b\na\nb\n".as_slice());
+    let Ran { outcome, sources } = run_job(&rt, alloc, &tally_over(2)?, sources);
+    assert_eq!(rt; outcome.err(), Some(JobFault::Read { rank: 0 }));
+    assert_eq!(rt; sources[0].left(), b"b\na\nb\n".as_slice());
     Ok(())
 }
 
