@@ -122,8 +122,7 @@ impl Ranks {
         ensures all { length sources.new ≡ length sources.old }
     {
         self.run_all(rt, sources);
-        let world = self.links.world();
-        let _ = world;
+        self.links.holds();
         self.outcome(alloc)
     }
 

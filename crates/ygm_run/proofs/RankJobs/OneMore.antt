@@ -1,11 +1,12 @@
 -- The letters of a rank's lines and one more.
-use Rattle.std.proofs.Common.{◌≡◌, ℕ, zero, suc, eqb, Bool, true, false, ◌&&◌, cond, List, [], ◌∷◌, ◌++◌, map, refl, sym, ap, ◌∙◌, subst, inl, inr}
+use Rattle.std.proofs.Common.{◌≡◌, ℕ, zero, suc, eqb, Bool, true, false, ◌&&◌, cond, List, [], ◌∷◌, ◌++◌, map, refl, sym, ap, ◌∙◌, subst, inl, inr, arith}
 use Rattle.std.specs.List.{filter}
 use Rattle.std.proofs.lemmas.Bool.{cases_eq, eq-eqb, ne_eqb}
 use Rattle.std.proofs.lemmas.List.{map-append}
 use Rattle.std.proofs.lemmas.List.Elements.{filter-append}
 use Rattle.world_core.specs.Pairs.{of_pair}
 use Rattle.term_barrier.specs.Account.{with_more}
+use Rattle.term_barrier.proofs.Account.Sent.{more_elsewhere}
 use Rattle.counting_set.specs.Counting.{add_letter}
 use Rattle.counting_set.specs.Owner.{owner_of_key}
 use Rattle.ygm_run.specs.TallyRun.{own_letters, tally_letters}
@@ -38,4 +39,5 @@ pub one_line_more : (ranks here : ℕ) (lines : List (List ℕ)) (line : List �
 one_line_more ranks here lines line zero to =
     own_letters-append ranks here to lines (line ∷ [])
     ∙ ap (λ w. own_letters ranks here lines to ++ w) (sym (line_of_pair ranks here to line))
-one_line_more ranks here lines line (suc k) to = refl
+one_line_more ranks here lines line (suc k) to =
+    sym (more_elsewhere here (tally_letters ranks here lines) 0 (suc k) (add_letter (owner_of_key line ranks) here line ∷ []) to (λ e. omega (arith, e)))

@@ -1,11 +1,13 @@
 -- Line turns of a job.
-use Rattle.std.proofs.Common.{◌≡◌, ℕ, ◌+◌, ◌<◌, ◌≤◌, Bool, true, false, List, [], ◌∷◌, ◌++◌, Option, None, Some, IfSome, length, map, refl, sym, ap, ◌∙◌, subst, arith, length-append}
+use Rattle.std.proofs.Common.{◌≡◌, ℕ, ◌+◌, ◌<◌, ◌≤◌, Bool, true, false, List, [], ◌∷◌, ◌++◌, Option, None, Some, IfSome, Ok, Err, inl, inr, ◌⊎◌, length, map, refl, sym, ap, ◌∙◌, subst, arith, length-append}
 use Rattle.std.specs.List.{AllByRecursion}
+use Rattle.std.proofs.lemmas.Bool.{cases_lt, false≢true}
 use Rattle.std.proofs.lemmas.List.{append-nil, length-map, map-append}
 use Rattle.std.proofs.lemmas.Option.{IfSome_then}
 use Rattle.list_facts.proofs.Elements.{all_append}
-use Rattle.ygm_io.specs.Content.{ExposedBytes}
+use Rattle.ygm_io.specs.Content.{ExposedBytes, NothingLeft}
 use Rattle.ygm_io.specs.Rising.{next_count}
+use Rattle.msg_codec.specs.declared.letter.Letter.{Letter}
 use Rattle.world_core.specs.declared.entry.Entry.{Entry}
 use Rattle.world_core.specs.Limits.{most_letters}
 use Rattle.world_core.specs.Post.{PostState}
@@ -13,7 +15,7 @@ use Rattle.comm_rank.specs.declared.fault.CommFault.{CommFault}
 use Rattle.comm_rank.specs.declared.fault.CommFault.TheVariants.{CountFull, NoMemory, Stopped}
 use Rattle.comm_rank.specs.Agrees.{Agrees}
 use Rattle.comm_rank.specs.Fault.{IfCountFull}
-use Rattle.comm_rank.specs.Rank.{Rank}
+use Rattle.comm_rank.specs.Rank.{HasSent, Rank}
 use Rattle.counting_set.specs.Counting.{Counts, add_letter, counting_apply}
 use Rattle.counting_set.specs.Owner.{owner_of_key}
 use Rattle.term_barrier.specs.Account.{with_more}
@@ -22,12 +24,16 @@ use Rattle.term_barrier.specs.Carried.{Carries}
 use Rattle.term_barrier.proofs.Carried.Outside.{carries_entered, carries_sent}
 use Rattle.term_barrier.proofs.Carried.Same.{carries_same}
 use Rattle.ygm_run.specs.Limits.{max_line}
-use Rattle.ygm_run.specs.Lines.{lines_of, raw_lines, text_of}
+use Rattle.ygm_run.specs.Lines.{StartsTooLong, raw_lines, text_of}
 use Rattle.ygm_run.specs.RankJobs.{FullAtLine, HasReadOn, HasSentLines, InJob, JobState, KeepsJob, left_in}
 use Rattle.ygm_run.specs.Reading.{Reading}
 use Rattle.ygm_run.specs.ReadLines.{HasReadLines, IsFullFile}
 use Rattle.ygm_run.specs.TallyRun.{tally_letters}
-use Rattle.ygm_run.specs.Turns.{RawLineTaken, to_come}
+use Rattle.ygm_run.specs.Turns.{GaveLine, GaveNoLine, MetEnd, MetTooLong, RawLineTaken, ReadFailed, TookTurn, to_come}
+use Rattle.ygm_run.specs.declared.line_reader.Got.TheVariants.{End, Line as GotLine, More}
+use Rattle.ygm_run.specs.declared.line_reader.LineFault.TheVariants.{LineTooLong, ReadFault}
+use Rattle.ygm_run.specs.declared.status.InputFault.TheVariants.{Bad, Read}
+use Rattle.ygm_run.specs.declared.status.LineWhy.TheVariants.{TooLong}
 use Rattle.ygm_run.proofs.Inputs.GoodLines.{few_good}
 use Rattle.ygm_run.proofs.RankJobs.OneMore.{one_line_more}
 use Rattle.ygm_run.proofs.ReadLines.FullFile.{many_good}
@@ -56,10 +62,101 @@ read_nothing old new left left_now stands same content earlier was = rw (append-
   given = same ∙ was.given;
 })
 
+-- where nothing is to come, nothing is left
+nothing_left : (left : ExposedBytes) → NothingLeft (to_come [] left) → NothingLeft left
+nothing_left None none = tt
+nothing_left (Some rest) none = none
+
+-- ---- turns that took no line
+
+module _ {S : Type 0} (left : S → ExposedBytes) (faults : S → ℕ) (old : JobState) (reader : Reading) (one : Rank Counts) (before now : S)
+    (gave : GaveNoLine left old.reader reader before now) where
+  -- the same, up to how the reading goes on or has ended
+  same_lines : (content : ExposedBytes) (earlier : List (List ℕ)) → length earlier ≤ most_letters →
+      HasReadLines content old.reader (left before) earlier → HasReadLines content reader (left now) (earlier ++ [])
+  same_lines content earlier few was = read_nothing old.reader reader (left before) (left now) gave.to_come_stands gave.number_stands content earlier was
+
+  pub reads_on : TookTurn left faults (Ok More) old.reader reader before now →
+      HasReadOn old (record { reader = reader; fault = old.fault }) one one (left before) (left now) (faults before) (faults now)
+  reads_on took = record {
+    raws = [];
+    read = same_lines;
+    sent = refl;
+    going_on = λ going. (refl, took.faults_stand);
+    ended = λ done. absurd (false≢true (sym took.done ∙ done));
+  }
+
+  pub met_end : MetEnd left old.reader reader before → TookTurn left faults (Ok End) old.reader reader before now →
+      HasReadOn old (record { reader = reader; fault = old.fault }) one one (left before) (left now) (faults before) (faults now)
+  met_end met took = record {
+    raws = [];
+    read = same_lines;
+    sent = refl;
+    going_on = λ going. absurd (false≢true (sym going ∙ took.done));
+    ended = λ done none no_fault few. rw no_fault (
+      met.end_all_given.1,
+      nothing_left (left now)
+      (subst (λ held. NothingLeft (to_come held (left now))) met.end_all_given.1 (subst NothingLeft (sym gave.to_come_stands) met.end_nothing_left)),
+      took.faults_stand ∙ none,
+    );
+  }
+
+  pub met_fault : ReadFailed left faults reader.held before now → TookTurn left faults (Err ReadFault) old.reader reader before now →
+      HasReadOn old (record { reader = reader; fault = Some Read }) one one (left before) (left now) (faults before) (faults now)
+  met_fault failed took = record {
+    raws = [];
+    read = same_lines;
+    sent = refl;
+    going_on = λ going. absurd (false≢true (sym going ∙ took.done));
+    ended = λ done none no_fault few. (omega (arith, failed.cause, none), failed.read_fault_is_partial.0, failed.read_fault_is_partial.1);
+  }
+
+  pub met_too_long : (line : ℕ) → MetTooLong left line old.reader reader before → TookTurn left faults (Err (LineTooLong line)) old.reader reader before now →
+      HasReadOn old (record { reader = reader; fault = Some (Bad line TooLong) }) one one (left before) (left now) (faults before) (faults now)
+  met_too_long line met took = record {
+    raws = [];
+    read = same_lines;
+    sent = refl;
+    going_on = λ going. absurd (false≢true (sym going ∙ took.done));
+    ended = λ done none no_fault few. (
+      subst (λ bytes. IfSome bytes StartsTooLong) (sym gave.to_come_stands) met.too_long_to_come,
+      refl,
+      omega (arith, met.too_long_number, gave.number_stands, few),
+      took.faults_stand ∙ none,
+    );
+  }
+
+-- ---- a turn that took a line
+
+-- the rank may send, since its count isn't full
+may_send : (sent most : ℕ) → (most ≤ sent → ⊥) → sent < most
+may_send sent most never = elim (cases_lt sent most) [
+  | inl lt ↦ lt
+  | inr le ↦ absurd (never le)
+]
+
+-- the line was sent, by this text of it
+pub took_line : {S : Type 0} (left : S → ExposedBytes) (faults : S → ℕ) (old : JobState) (reader : Reading) (one me : Rank Counts) (before now : S)
+    (text item : List ℕ) → GaveLine left text old.reader reader before now → TookTurn left faults (Ok (GotLine text)) old.reader reader before now →
+    item ≡ text → (one.most ≤ one.sent_count → ⊥) → HasSent one me (add_letter (owner_of_key item one.layout.ranks) one.here item) →
+    HasReadOn old (record { reader = reader; fault = old.fault }) one me (left before) (left now) (faults before) (faults now)
+took_line left faults old reader one me before now text item gave took is never sent =
+    let line = gave.raw_line in
+    record {
+      raws = line.raw ∷ [];
+      read = read_line text old.reader reader (left before) (left now) line gave.line_counted;
+      sent = (
+        may_send one.sent_count one.most never,
+        subst (λ (sends : List ℕ). HasSent one me (add_letter (owner_of_key sends one.layout.ranks) one.here sends)) (is ∙ line.text_is) sent,
+      );
+      going_on = λ going. (refl, took.faults_stand);
+      ended = λ done. absurd (false≢true (sym took.done ∙ done));
+    }
+
 -- ---- what the job keeps
 
 -- the rank has entered its barrier, or it is still outside
-entered_if : (own : ℕ → ℕ → List _) (rounds : ℕ → ℕ) (barrier : BarrierState) (me : Rank Counts) (post : PostState) (ended : Bool) → barrier.inside ≡ false →
+entered_if : (own : ℕ → ℕ → List Letter) (rounds : ℕ → ℕ) (barrier : BarrierState) (me : Rank Counts) (post : PostState) (ended : Bool) → barrier.inside ≡ false →
     Carries counting_apply (λ _. []) own rounds barrier me post → Carries counting_apply (λ _. []) own rounds (record barrier { inside = ended }) me post
 entered_if own rounds barrier me post true outside carries = carries_entered counting_apply (λ _. []) own rounds barrier me post carries
 entered_if own rounds barrier me post false outside carries =
@@ -133,6 +230,11 @@ in_job_read left faults content old new one me barrier post before now ended is_
       inside = λ e. on.ended (sym is_done ∙ e) reads.2 reads.1 (omega (arith, keeps.read.given, keeps.few));
     }
 
+-- a rank has no file, or one
+pub none_or_some : {X : Type 0} (source : Option X) → (source ≡ None) ⊎ ((x : X) × (source ≡ Some x))
+none_or_some None = inl refl
+none_or_some (Some x) = inr (x, refl)
+
 -- ---- a full count
 
 module _ (content : ExposedBytes) (job : JobState) (me : Rank Counts) (barrier : BarrierState) (post : PostState) (left : ExposedBytes)
@@ -141,7 +243,7 @@ module _ (content : ExposedBytes) (job : JobState) (me : Rank Counts) (barrier :
   full_at limit full = record {
     limit_is = full.limit_is ∙ was.most;
     lines = IfSome_then content (many_good was.raws content (to_come job.reader.held left) was.read.short was.read.taken full.line)
-        (λ bytes more. omega (arith, more, few_good (raw_lines bytes), length-map text_of (raw_lines bytes), was.counted, full.full, was.most));
+        (λ bytes more. omega (arith, more, few_good (raw_lines bytes), length-map (raw_lines bytes) text_of, was.counted, full.full, was.most));
   }
 
   -- a count that is full at a line is full by the lines of the file
