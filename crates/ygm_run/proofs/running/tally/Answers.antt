@@ -17,6 +17,6 @@ returns-clause-text g c =
           (w.finish-status.ensures.text (tally_text (lines_of_each bytes))
           (λ table is. text_of_run g.S.Source.left g.S.Source.faults c.in-Ok.layout.ranks c.args.sources.items c.run_job-outcome.result.sources.items _
           (omega (arith, ranks, c.requires.some)) (omega (arith, ranks)) (omega (arith, ranks, c.requires.few)) c.run_job-outcome.ensures.all
-          w.in-Ok-outcome.ensures.ran bytes exposed table (subst (λ shards. IsTableOf (flat_map (λ shard. shard) shards) table) w.deref.ensures.value is)))
+          (rw w.in-Ok-outcome.is at c.run_job-outcome.ensures.ran) bytes exposed table (subst (λ shards. IsTableOf (flat_map (λ shard. shard) shards) table) w.deref.ensures.value is)))
       | in-Err w ↦ λ bytes exposed. rw (w.status-is, w.out-is) (nothing_is_written _ _ _ _ (ap may_write w.status-status.ensures ∙ job_unwritten w.in-Err.fault))
     ]
