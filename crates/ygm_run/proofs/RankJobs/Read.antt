@@ -1,13 +1,11 @@
 -- Line turns of a job.
-use Rattle.std.proofs.Common.{◌≡◌, ℕ, ◌+◌, ◌<◌, ◌≤◌, Bool, true, false, List, [], ◌∷◌, ◌++◌, Option, None, Some, IfSome, Ok, Err, inl, inr, ◌⊎◌, length, map, refl, sym, ap, ◌∙◌, subst, arith, length-append}
-use Rattle.std.specs.List.{AllByRecursion}
+use Rattle.std.proofs.Common.{◌≡◌, ℕ, ◌<◌, ◌≤◌, Bool, true, false, List, [], ◌∷◌, ◌++◌, Option, None, Some, IfSome, Ok, Err, inl, inr, ◌⊎◌, length, map, refl, sym, ap, ◌∙◌, subst, arith, length-append}
 use Rattle.std.proofs.lemmas.Bool.{cases_lt, false≢true}
 use Rattle.std.proofs.lemmas.List.{append-nil, length-map, map-append}
 use Rattle.std.proofs.lemmas.Option.{IfSome_then}
 use Rattle.list_facts.proofs.Elements.{all_append}
 use Rattle.ygm_io.specs.Content.{ExposedBytes, NothingLeft}
 use Rattle.ygm_io.specs.Rising.{next_count}
-use Rattle.msg_codec.specs.declared.letter.Letter.{Letter}
 use Rattle.world_core.specs.declared.entry.Entry.{Entry}
 use Rattle.world_core.specs.Limits.{most_letters}
 use Rattle.world_core.specs.Post.{PostState}
@@ -25,7 +23,7 @@ use Rattle.term_barrier.proofs.Carried.Outside.{carries_entered, carries_sent}
 use Rattle.term_barrier.proofs.Carried.Same.{carries_same}
 use Rattle.ygm_run.specs.Limits.{max_line}
 use Rattle.ygm_run.specs.Lines.{StartsTooLong, raw_lines, text_of}
-use Rattle.ygm_run.specs.RankJobs.{FullAtLine, HasReadOn, HasSentLines, InJob, JobState, KeepsJob, left_in}
+use Rattle.ygm_run.specs.RankJobs.{FullAtLine, HasReadOn, HasSentLines, InJob, JobState, KeepsJob}
 use Rattle.ygm_run.specs.Reading.{Reading}
 use Rattle.ygm_run.specs.ReadLines.{HasReadLines, IsFullFile}
 use Rattle.ygm_run.specs.TallyRun.{tally_letters}
@@ -96,7 +94,7 @@ module _ {S : Type 0} (left : S → ExposedBytes) (faults : S → ℕ) (old : Jo
     ended = λ done none no_fault few. rw no_fault (
       met.end_all_given.1,
       nothing_left (left now)
-      (subst (λ held. NothingLeft (to_come held (left now))) met.end_all_given.1 (subst NothingLeft (sym gave.to_come_stands) met.end_nothing_left)),
+          (subst (λ held. NothingLeft (to_come held (left now))) met.end_all_given.1 (subst NothingLeft (sym gave.to_come_stands) met.end_nothing_left)),
       took.faults_stand ∙ none,
     );
   }
@@ -182,10 +180,10 @@ module _ (barrier : BarrierState) (post : PostState) (outside : barrier.inside �
       let all = earlier ++ raw ∷ [] in
       carries_same counting_apply (λ _. []) (with_more one.here own barrier.left letters) (tally_letters me.layout.ranks me.here (map text_of all)) rounds rounds barrier me post
       (λ k to.
-          ap (λ (r : Rank Counts). tally_letters r.layout.ranks r.here (map text_of all) k to) sends.rank
-          ∙ ap (λ w. tally_letters one.layout.ranks one.here w k to) (map-append text_of earlier (raw ∷ []))
-          ∙ one_line_more one.layout.ranks one.here lines (text_of raw) k to
-          ∙ ap (λ n. with_more one.here own n letters k to) (sym first))
+      ap (λ (r : Rank Counts). tally_letters r.layout.ranks r.here (map text_of all) k to) sends.rank
+      ∙ ap (λ w. tally_letters one.layout.ranks one.here w k to) (map-append text_of earlier (raw ∷ []))
+      ∙ one_line_more one.layout.ranks one.here lines (text_of raw) k to
+      ∙ ap (λ n. with_more one.here own n letters k to) (sym first))
       (λ k lt. refl)
       (carries_sent counting_apply (λ _. []) own rounds barrier one me _ post outside sends agrees carries)
   carries_lines earlier (raw ∷ other ∷ raws) sent carries = absurd sent

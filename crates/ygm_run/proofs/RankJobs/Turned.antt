@@ -1,5 +1,5 @@
 -- Turns of a job.
-use Rattle.std.proofs.Common.{◌≡◌, ℕ, false, List, [], length, map, refl, sym, ap, ◌∙◌, subst, arith}
+use Rattle.std.proofs.Common.{◌≡◌, false, List, [], length, map, refl, sym, ap, ◌∙◌, subst, arith}
 use Rattle.ygm_io.specs.Content.{ExposedBytes}
 use Rattle.world_core.specs.declared.entry.Entry.{Entry}
 use Rattle.world_core.specs.Pairs.{for_rank}
