@@ -1,7 +1,7 @@
 -- Ranks that belong to links and have put data letters alone: new ones, one that sent or took a turn, and all others.
-use Rattle.std.proofs.Common.{◌≡◌, ◌≢◌, ℕ, ◌<◌, false, Some, List, length, get_or, set, slice_get, sym, ap, ◌∙◌, subst, inl, inr, arith}
+use Rattle.std.proofs.Common.{◌≡◌, ◌≢◌, ℕ, ◌<◌, false, Some, List, length, set, slice_get, sym, ap, ◌∙◌, subst, inl, inr, arith}
 use Rattle.std.proofs.lemmas.Bool.{cases_eq}
-use Rattle.std.proofs.lemmas.Option.{slice_get-get_or, slice_get_within}
+use Rattle.std.proofs.lemmas.Option.{slice_get_within}
 use Rattle.list_facts.proofs.Places.{item_kept, item_placed}
 use Rattle.ygm_route.specs.declared.scheme.Scheme.TheVariants.{Direct}
 use Rattle.ygm_route.specs.Layout.{Shape}
@@ -40,18 +40,13 @@ module _ {C : Type 0} (apply : Applies C) (start : C → C) where
       let log : log_of new.world me.here ≡ log_of old.world me.here = same.other_logs me.here other in
       (belongs_still apply start me here (state_of old) (state_of new) same log stands.0, subst (λ xs. PutsData xs) (sym log) stands.1)
 
-  -- the rank at a place
-  pub at_place : (comms : List (Rank C)) (links : Plain) (rank : ℕ) (me : Rank C) → rank < length comms → AllStand comms links → me ≡ get_or comms rank me →
-      (me.here ≡ rank) × (me.stopped ≡ false → Stands me links)
-  at_place comms links rank me within all is = all rank me (slice_get-get_or comms rank me within ∙ ap Some (sym is))
-
   -- one of them changed
   pub all_set : (comms : List (Rank C)) (old new : Plain) (rank : ℕ) (now : Rank C) → AllStand comms old → now.here ≡ rank → (now.stopped ≡ false → Stands now new) →
       SamePost rank (state_of old) (state_of new) → AllStand (set comms rank now) new
   all_set comms old new rank now all here stands same other a e = elim (cases_eq other rank) [
     | inl is ↦
         let Q : Rank C → Type 0 = λ m. (m.here ≡ other) × (m.stopped ≡ false → Stands m new) in
-        subst Q (item_placed comms rank other now a is e) (here ∙ sym is, stands)
+        subst Q (item_placed comms rank other a now is e) (here ∙ sym is, stands)
     | inr ne ↦
         let at = all other a (sym (item_kept comms rank other now ne) ∙ e) in
         (at.0, λ going. stands_still a rank old new (λ here. ne (sym at.0 ∙ here)) same (at.1 going))

@@ -1,8 +1,9 @@
-use Rattle.std.proofs.Common.{◌<◌, ◌∙◌, length, length-set, sym, rules}
-use Rattle.comm_rank.proofs.Rank.Same.{same_none}
-use Rattle.comm_rank.proofs.tests.Standing.{all_set, at_place, stands_sent}
-use Rattle.comm_rank.proofs.tests.Ranks.try_send.Goals as goal
+use Rattle.std.proofs.Common.{◌<◌, ◌∙◌, Some, length, length-set, sym, ap, rules}
+use Rattle.std.proofs.lemmas.Option.{slice_get-get_or}
 use Rattle.world_core.specs.Plain.{state_of}
+use Rattle.comm_rank.proofs.Rank.Same.{same_none}
+use Rattle.comm_rank.proofs.tests.Standing.{all_set, stands_sent}
+use Rattle.comm_rank.proofs.tests.Ranks.try_send.Goals as goal
 
 pub invariant_of-self : goal.invariant_of-self
 invariant_of-self g c =
@@ -15,7 +16,7 @@ invariant_of-self g c =
     let now = c.send_by.new.comm in
     let e = c.send_by.ensures in
     let within : rank < length comms = search rules in
-    let at = at_place apply start comms links rank me within c.self.invariant.2 c.index_mut.ensures.value in (
+    let at = c.self.invariant.2 rank me (slice_get-get_or comms rank me within ∙ ap Some (sym c.index_mut.ensures.value)) in (
       c.self.invariant.0,
       length-set comms rank now ∙ c.self.invariant.1,
       all_set apply start comms links links rank now c.self.invariant.2 (e.same.here ∙ at.0)
