@@ -122,7 +122,7 @@ impl Ranks {
         ensures all { length sources.new ≡ length sources.old }
     {
         self.run_all(rt, sources);
-        self.links.holds();
+        let _ = self.links.world();
         self.outcome(alloc)
     }
 

@@ -30,8 +30,3 @@ pub unless_stopped : {P : Type 0} (fault : CommFault) → P → UnlessStopped fa
 unless_stopped Stopped p = tt
 unless_stopped (CountFull at) p = p
 unless_stopped NoMemory p = p
-
-pub unless_stopped_then : {P Q : Type 0} (fault : CommFault) → (P → Q) → UnlessStopped fault P → UnlessStopped fault Q
-unless_stopped_then Stopped f p = tt
-unless_stopped_then (CountFull at) f p = f p
-unless_stopped_then NoMemory f p = f p

@@ -9,7 +9,8 @@ use Rattle.world_core.specs.Limits.{most_letters, most_rounds}
 use Rattle.world_core.specs.Plain.{Plain, fresh_links, state_of}
 use Rattle.world_core.specs.Post.{PostState}
 use Rattle.comm_rank.specs.Rank.{Rank, fresh_rank}
-use Rattle.comm_rank.proofs.Settled.AreRanks.{belongs_new, pushed}
+use Rattle.comm_rank.proofs.Agrees.Fresh.{belongs_new}
+use Rattle.list_facts.proofs.Places.{each_place_more}
 use Rattle.term_barrier.specs.Barriers.{BarrierState, fresh_barrier}
 use Rattle.term_barrier.specs.Carried.{Carries}
 use Rattle.term_barrier.proofs.Carried.Outside.{carries_new}
@@ -101,4 +102,4 @@ fresh_are_runs left faults layout start runs links fresh none = subst (λ (those
 pub fresh_more : (layout : Shape) (runs : List RankRun) (run : RankRun) →
     ((rank : ℕ) (one : RankRun) → slice_get runs rank ≡ Some one → IsFreshRun layout rank one) → IsFreshRun layout (length runs) run →
     (rank : ℕ) (one : RankRun) → slice_get (runs ++ run ∷ []) rank ≡ Some one → IsFreshRun layout rank one
-fresh_more layout runs run each last = pushed (IsFreshRun layout) runs run each last
+fresh_more layout runs run each last = each_place_more (IsFreshRun layout) runs run each last
