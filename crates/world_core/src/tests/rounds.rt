@@ -1,6 +1,4 @@
 //! Rounds of counts: scripts of events, what they are refused for, and the barriers that they end.
-ghost use Rattle.std.specs.Prelude.{◌≡◌, IfOk};
-
 use super::{Short, batch_of, take};
 use crate::{Event, ReplayFault, Why, World, replay};
 use msg_codec::{Batch, Control, LetterRef, Letters};
@@ -36,12 +34,25 @@ fn data(from: u32, to: u32) -> Step {
     Step::Puts(from, to, Put::Data(from, to))
 }
 
+fn count_of(rank: u32, q: u64, s: u64, r: u64) -> Control {
+    Control::Count { rank, q, s, r }
+}
+
+fn total_of(to: u32, q: u64, s: u64, r: u64) -> Control {
+    Control::Total { to, q, s, r }
+}
+
+/// A control letter goes over the link from a rank to a rank.
+fn over(from: u32, to: u32, control: Control) -> Step {
+    Step::Puts(from, to, Put::Control(control))
+}
+
 fn count(rank: u32, q: u64, s: u64, r: u64) -> Step {
-    Step::Puts(rank, 0, Put::Control(Control::Count { rank, q, s, r }))
+    over(rank, 0, count_of(rank, q, s, r))
 }
 
 fn total(to: u32, q: u64, s: u64, r: u64) -> Step {
-    Step::Puts(0, to, Put::Control(Control::Total { to, q, s, r }))
+    over(0, to, total_of(to, q, s, r))
 }
 
 fn takes(at: u32, from: u32) -> Step {
@@ -130,10 +141,9 @@ fn outcome_of(
     }
 }
 
-/// Three ranks. A letter of rank 0 to rank 2 is in transit while the sums of round 0 agree. Round 1 agrees in itself and
-/// differs from round 0, and round 2 agrees with round 1.
-fn a_letter_in_transit(alloc: Global) -> Result<Vec<Step>, AllocError> {
-    let sent = [
+/// A letter of rank 0 to rank 2 is in transit while the sums of round 0 agree.
+fn first_round(alloc: Global) -> Result<Vec<Step>, AllocError> {
+    let steps = [
         data(1, 0),
         count(0, 0, 0, 0),
         takes(0, 1),
@@ -153,7 +163,12 @@ fn a_letter_in_transit(alloc: Global) -> Result<Vec<Step>, AllocError> {
         takes(2, 0),
         takes(2, 0),
     ];
-    let counted_again = [
+    Ok(Vec::from_array(alloc, steps)?)
+}
+
+/// Round 1 agrees in itself and differs from round 0, and round 2 agrees with round 1.
+fn later_rounds(alloc: Global) -> Result<Vec<Step>, AllocError> {
+    let steps = [
         count(0, 1, 2, 1),
         count(1, 1, 1, 1),
         count(2, 1, 0, 1),
@@ -176,8 +191,13 @@ fn a_letter_in_transit(alloc: Global) -> Result<Vec<Step>, AllocError> {
         total(2, 2, 3, 3),
         total(0, 2, 3, 3),
     ];
-    let mut steps = Vec::from_array(alloc, sent)?;
-    for step in counted_again {
+    Ok(Vec::from_array(alloc, steps)?)
+}
+
+/// Three ranks, and three rounds.
+fn a_letter_in_transit(alloc: Global) -> Result<Vec<Step>, AllocError> {
+    let mut steps = first_round(alloc)?;
+    for step in later_rounds(alloc)? {
         steps.push(step)?;
     }
     Ok(steps)
@@ -222,10 +242,6 @@ fn refuses(
     Ok(())
 }
 
-fn over(from: u32, to: u32, control: Control) -> Step {
-    Step::Puts(from, to, Put::Control(control))
-}
-
 #[test]
 fn each_rule_of_control_letters_refuses(rt: HostRuntime) -> Result<(), Fail> {
     let alloc = rt.alloc();
@@ -234,58 +250,10 @@ fn each_rule_of_control_letters_refuses(rt: HostRuntime) -> Result<(), Fail> {
         (Why::BadTag, &[Step::Puts(1, 0, Put::Other(1, 240, 23))]),
         (Why::MixedControl, &[Step::Puts(1, 0, Put::Mixed(1))]),
         (Why::SentWhileCounted, &[count(1, 0, 0, 0), data(1, 0)]),
-        (
-            Why::WrongControl,
-            &[over(
-                1,
-                1,
-                Control::Count {
-                    rank: 1,
-                    q: 0,
-                    s: 0,
-                    r: 0,
-                },
-            )],
-        ),
-        (
-            Why::WrongControl,
-            &[over(
-                1,
-                0,
-                Control::Count {
-                    rank: 2,
-                    q: 0,
-                    s: 0,
-                    r: 0,
-                },
-            )],
-        ),
-        (
-            Why::WrongControl,
-            &[over(
-                0,
-                1,
-                Control::Total {
-                    to: 2,
-                    q: 0,
-                    s: 0,
-                    r: 0,
-                },
-            )],
-        ),
-        (
-            Why::WrongControl,
-            &[over(
-                1,
-                1,
-                Control::Total {
-                    to: 1,
-                    q: 0,
-                    s: 0,
-                    r: 0,
-                },
-            )],
-        ),
+        (Why::WrongControl, &[over(1, 1, count_of(1, 0, 0, 0))]),
+        (Why::WrongControl, &[over(1, 0, count_of(2, 0, 0, 0))]),
+        (Why::WrongControl, &[over(0, 1, total_of(2, 0, 0, 0))]),
+        (Why::WrongControl, &[over(1, 1, total_of(1, 0, 0, 0))]),
         (
             Why::CountUnforwarded,
             &[
@@ -302,49 +270,40 @@ fn each_rule_of_control_letters_refuses(rt: HostRuntime) -> Result<(), Fail> {
 }
 
 #[test]
-fn each_rule_of_counts_and_totals_refuses(rt: HostRuntime) -> Result<(), Fail> {
+fn each_rule_of_counts_refuses(rt: HostRuntime) -> Result<(), Fail> {
     let alloc = rt.alloc();
-    let rows: [(u32, Why, &[Step]); 11] = [
-        (4, Why::CountEarly, &[count(1, 1, 0, 0)]),
-        (4, Why::CountEarly, &[count(1, 0, 0, 0), count(1, 0, 0, 0)]),
-        (4, Why::CountEarly, &[count(1, 0, 0, 0), count(1, 1, 0, 0)]),
-        (4, Why::CountWrong, &[data(1, 0), count(1, 0, 0, 0)]),
+    let rows: [(Why, &[Step]); 5] = [
+        (Why::CountEarly, &[count(1, 1, 0, 0)]),
+        (Why::CountEarly, &[count(1, 0, 0, 0), count(1, 0, 0, 0)]),
+        (Why::CountEarly, &[count(1, 0, 0, 0), count(1, 1, 0, 0)]),
+        (Why::CountWrong, &[data(1, 0), count(1, 0, 0, 0)]),
         (
-            4,
             Why::CountWrong,
             &[data(1, 0), takes(0, 1), count(0, 0, 0, 0)],
         ),
-        (1, Why::TotalEarly, &[count(0, 0, 0, 0), total(0, 0, 0, 0)]),
+    ];
+    for (why, steps) in rows {
+        refuses(&rt, alloc, 4, why, steps)?;
+    }
+    Ok(())
+}
+
+#[test]
+fn each_rule_of_totals_refuses(rt: HostRuntime) -> Result<(), Fail> {
+    let alloc = rt.alloc();
+    let counted = count(0, 0, 0, 0);
+    let took = takes(0, 0);
+    let rows: [(u32, Why, &[Step]); 6] = [
+        (1, Why::TotalEarly, &[counted, total(0, 0, 0, 0)]),
+        (1, Why::TotalEarly, &[counted, took, total(0, 1, 0, 0)]),
+        (2, Why::TotalEarly, &[counted, took, total(0, 0, 0, 0)]),
         (
             1,
             Why::TotalEarly,
-            &[count(0, 0, 0, 0), takes(0, 0), total(0, 1, 0, 0)],
+            &[counted, took, total(0, 0, 0, 0), total(0, 0, 0, 0)],
         ),
-        (
-            2,
-            Why::TotalEarly,
-            &[count(0, 0, 0, 0), takes(0, 0), total(0, 0, 0, 0)],
-        ),
-        (
-            1,
-            Why::TotalEarly,
-            &[
-                count(0, 0, 0, 0),
-                takes(0, 0),
-                total(0, 0, 0, 0),
-                total(0, 0, 0, 0),
-            ],
-        ),
-        (
-            1,
-            Why::TotalWrong,
-            &[count(0, 0, 0, 0), takes(0, 0), total(0, 0, 1, 0)],
-        ),
-        (
-            1,
-            Why::TotalWrong,
-            &[count(0, 0, 0, 0), takes(0, 0), total(0, 0, 0, 1)],
-        ),
+        (1, Why::TotalWrong, &[counted, took, total(0, 0, 1, 0)]),
+        (1, Why::TotalWrong, &[counted, took, total(0, 0, 0, 1)]),
     ];
     for (ranks, why, steps) in rows {
         refuses(&rt, alloc, ranks, why, steps)?;
@@ -356,19 +315,7 @@ fn each_rule_of_counts_and_totals_refuses(rt: HostRuntime) -> Result<(), Fail> {
 fn the_first_rule_that_is_broken_is_named(rt: HostRuntime) -> Result<(), Fail> {
     let alloc = rt.alloc();
     let rows: [(Why, &[Step]); 6] = [
-        (
-            Why::NoSuchRank,
-            &[over(
-                1,
-                0,
-                Control::Count {
-                    rank: 4,
-                    q: 0,
-                    s: 0,
-                    r: 0,
-                },
-            )],
-        ),
+        (Why::NoSuchRank, &[over(1, 0, count_of(4, 0, 0, 0))]),
         (
             Why::BadTag,
             &[count(1, 0, 0, 0), Step::Puts(1, 0, Put::Other(1, 241, 0))],
@@ -377,19 +324,7 @@ fn the_first_rule_that_is_broken_is_named(rt: HostRuntime) -> Result<(), Fail> {
             Why::WrongHop,
             &[count(1, 0, 0, 0), Step::Puts(1, 0, Put::Data(1, 3))],
         ),
-        (
-            Why::WrongControl,
-            &[over(
-                1,
-                1,
-                Control::Total {
-                    to: 1,
-                    q: 9,
-                    s: 9,
-                    r: 9,
-                },
-            )],
-        ),
+        (Why::WrongControl, &[over(1, 1, total_of(1, 9, 9, 9))]),
         (
             Why::CountEarly,
             &[
