@@ -3,14 +3,13 @@ ghost use Rattle.std.specs.Prelude.{◌≡◌, List, [], true, false, IfOk, IfEr
 ghost use Rattle.std.specs.Option.{option_copied_mut};
 ghost use Rattle.ygm_io.specs.Content.{ExposedBytes};
 ghost use Rattle.world_core.specs.declared.entry.Entry.{Entry};
-ghost use Rattle.world_core.specs.Post.{PostState};
 ghost use Rattle.comm_rank.specs.Agrees.{Agrees};
 ghost use Rattle.comm_rank.specs.Fault.{IfCountFull, NeverStopped};
 ghost use Rattle.comm_rank.specs.Rank.{IsSameRank};
 ghost use Rattle.comm_rank.specs.Turns.{KeepsPost};
-ghost use Rattle.term_barrier.specs.Barriers.{BarrierState};
 ghost use Rattle.term_barrier.specs.Polls.{Stands};
 ghost use Rattle.counting_set.specs.Counting.{counting_apply};
+ghost use Rattle.ygm_run.specs.declared.job.Step.TheVariants.{Going};
 ghost use Rattle.ygm_run.specs.Inputs.{IsRest};
 ghost use Rattle.ygm_run.specs.RankJobs.{FullAtLine, HasPolledOnce, HasReadOn, InJob, JobState, JobTurned, KeepsJob, fresh_job, left_in, source_after};
 
@@ -90,34 +89,11 @@ impl Job {
         if barrier.inside() {
             return wait(comm, barrier, post);
         }
-        if self.read(comm, src)? {
-            barrier.enter(comm);
-        }
-        comm.turn(post)?;
-        Ok(Step::Going)
-    }
-
-    // A line turn, outside the barrier. It returns whether reading has ended; then the rank enters its barrier.
-    fn read<S: Source>(
-        &mut self,
-        comm: &mut Comm<Counting>,
-        src: Option<&mut S>,
-    ) -> Result<bool, CommFault>
-        requires open { self.old.reader.done ≡ false }
-        requires going { comm.old.stopped ≡ false }
-        ensures read { (content : ExposedBytes) (barrier : BarrierState) (post : PostState) → barrier.inside ≡ false
-            → InJob S.left S.faults content self.old comm.old barrier post (option_copied_mut src.entry)
-            → IfOk result (λ ended. InJob S.left S.faults content self.new comm.new (record barrier { inside = ended }) post (source_after src.exit)) }
-        ensures full { IfErr result (λ fault. IfCountFull fault (FullAtLine comm.old self.old.reader (left_in S.left (option_copied_mut src.entry)))) }
-        ensures never_stopped { IfErr result NeverStopped }
-        ensures same_rank { IsSameRank comm.old comm.new }
-        ensures rest { IsRest (left_in S.left (option_copied_mut src.entry)) (left_in S.left (source_after src.exit)) }
-    {
         let Some(source) = src else {
-            return Ok(true);
+            return go_on(comm, barrier, post, true);
         };
         self.read_on(comm, source)?;
-        Ok(self.reader.done())
+        go_on(comm, barrier, post, self.reader.done())
     }
 
     // A turn of the reader. The line that it returns is sent to its owner.
@@ -150,6 +126,32 @@ impl Job {
         }
         Ok(())
     }
+}
+
+// A turn outside the job's barrier, which the rank enters first where its reading has ended. No count of letters stops the
+// turn, since counting sends none.
+fn go_on<P: Post>(
+    comm: &mut Comm<Counting>,
+    barrier: &mut Barrier,
+    post: &mut P,
+    ended: bool,
+) -> Result<Step, CommFault>
+    requires going { comm.old.stopped ≡ false }
+    requires stands { Stands counting_apply (λ _. []) barrier.old comm.old (P.state post.old) }
+    requires outside { barrier.old.inside ≡ false }
+    ensures kept { (content : ExposedBytes) (job : JobState) (left : ExposedBytes) → KeepsJob content job comm.old barrier.old (P.state post.old) left
+        → OnOk result (KeepsJob content job comm.new barrier.new (P.state post.new) left) }
+    ensures step { IfOk result (λ step. (step ≡ Going) × (comm.new.stopped ≡ false)) }
+    ensures entered { barrier.new ≡ record barrier.old { inside = ended } }
+    ensures never_full { IfErr result (λ fault. IfCountFull fault (λ _. ⊥)) }
+    ensures same_rank { IsSameRank comm.old comm.new }
+    ensures post { KeepsPost comm.old (P.state post.old) (P.state post.new) }
+{
+    if ended {
+        barrier.enter(comm);
+    }
+    comm.turn(post)?;
+    Ok(Step::Going)
 }
 
 // A poll of the job's barrier, which no count of letters stops, since counting sends none.

@@ -1,5 +1,5 @@
 -- Polls of a job.
-use Rattle.std.proofs.Common.{◌≡◌, ℕ, ◌+◌, true, false, List, [], length, map, refl, sym, ap, ◌∙◌, subst, arith, Option, Result, Ok, Err, OnOk, IfOk, IfErr}
+use Rattle.std.proofs.Common.{◌≡◌, ℕ, ◌+◌, true, false, List, [], map, refl, sym, ap, ◌∙◌, subst, Option, Result, Ok, Err, OnOk, IfOk, IfErr}
 use Rattle.std.proofs.lemmas.Bool.{false≢true}
 use Rattle.ygm_io.specs.Content.{ExposedBytes}
 use Rattle.world_core.specs.Post.{PostState}
@@ -18,9 +18,10 @@ use Rattle.term_barrier.proofs.Carried.Polled.{carries_left, carries_waited}
 use Rattle.ygm_run.specs.declared.job.Step.{Step}
 use Rattle.ygm_run.specs.declared.job.Step.TheVariants.{Going, Finished}
 use Rattle.ygm_run.specs.Lines.{text_of}
-use Rattle.ygm_run.specs.RankJobs.{HasPolledOnce, InJob, JobState, JobTurned, KeepsJob, left_in}
+use Rattle.ygm_run.specs.RankJobs.{HasPolledOnce, InJob, JobState, JobTurned, KeepsJob, faults_in, left_in}
 use Rattle.ygm_run.specs.ReadLines.{IsFullFile}
 use Rattle.ygm_run.specs.TallyRun.{tally_letters}
+use Rattle.ygm_run.proofs.Inputs.IsRead.{stopped_at_piece}
 use Rattle.ygm_run.proofs.RankJobs.Turned.{sends_nothing}
 
 module _ (content : ExposedBytes) (job : JobState) (left : ExposedBytes) (old new : BarrierState) (one me : Rank Counts) (before after : PostState)
@@ -83,5 +84,14 @@ polled_once left faults content job old new one me before after source (Ok Finis
   keeps = kept was.keeps;
   passed = step ∙ ap (λ n. n + 1) was.first;
   ended = was.inside inside;
+  stops = stopped_at_piece was.keeps.raws job.reader content (left_in left source) (faults_in faults source) job.fault was.keeps.read.short was.keeps.read.taken (was.inside inside);
 }
 polled_once left faults content job old new one me before after source (Err fault) inside kept step full was = never_full fault (IsFullFile content) full
+
+-- after a turn outside, the job goes on, or it was stopped
+pub gone_on : {S : Type 0} (left : S → ExposedBytes) (faults : S → ℕ) (content : ExposedBytes) (job : JobState) (me : Rank Counts) (barrier : BarrierState)
+    (post : PostState) (source : Option S) (result : Result Step CommFault) (Kept : Type 0) → OnOk result Kept →
+    IfOk result (λ step. (step ≡ Going) × (me.stopped ≡ false)) → IfErr result (λ fault. IfCountFull fault (λ _. ⊥)) →
+    (me.stopped ≡ false → Kept → InJob left faults content job me barrier post source) → JobTurned left faults content result job me barrier post source
+gone_on left faults content job me barrier post source (Ok step) Kept kept gone full then = rw gone.0 (then gone.1 kept)
+gone_on left faults content job me barrier post source (Err fault) Kept kept gone full then = never_full fault (IsFullFile content) full

@@ -1,13 +1,11 @@
 -- Line turns of a job.
-use Rattle.std.proofs.Common.{◌≡◌, ℕ, ◌+◌, ◌<◌, ◌≤◌, Bool, true, false, List, [], ◌∷◌, ◌++◌, Option, None, Some, IfSome, Ok, Err, inl, inr, ◌⊎◌, length, map, refl, sym, ap, ◌∙◌, subst, arith, length-append}
-use Rattle.std.specs.List.{AllByRecursion}
+use Rattle.std.proofs.Common.{◌≡◌, ℕ, ◌<◌, ◌≤◌, Bool, true, false, List, [], ◌∷◌, ◌++◌, Option, None, Some, IfSome, Ok, Err, inl, inr, ◌⊎◌, length, map, refl, sym, ap, ◌∙◌, subst, arith, length-append}
 use Rattle.std.proofs.lemmas.Bool.{cases_lt, false≢true}
 use Rattle.std.proofs.lemmas.List.{append-nil, length-map, map-append}
 use Rattle.std.proofs.lemmas.Option.{IfSome_then}
 use Rattle.list_facts.proofs.Elements.{all_append}
 use Rattle.ygm_io.specs.Content.{ExposedBytes, NothingLeft}
 use Rattle.ygm_io.specs.Rising.{next_count}
-use Rattle.msg_codec.specs.declared.letter.Letter.{Letter}
 use Rattle.world_core.specs.declared.entry.Entry.{Entry}
 use Rattle.world_core.specs.Limits.{most_letters}
 use Rattle.world_core.specs.Post.{PostState}
@@ -25,7 +23,7 @@ use Rattle.term_barrier.proofs.Carried.Outside.{carries_entered, carries_sent}
 use Rattle.term_barrier.proofs.Carried.Same.{carries_same}
 use Rattle.ygm_run.specs.Limits.{max_line}
 use Rattle.ygm_run.specs.Lines.{StartsTooLong, raw_lines, text_of}
-use Rattle.ygm_run.specs.RankJobs.{FullAtLine, HasReadOn, HasSentLines, InJob, JobState, KeepsJob, left_in}
+use Rattle.ygm_run.specs.RankJobs.{FullAtLine, HasReadOn, HasSentLines, InJob, JobState, KeepsJob}
 use Rattle.ygm_run.specs.Reading.{Reading}
 use Rattle.ygm_run.specs.ReadLines.{HasReadLines, IsFullFile}
 use Rattle.ygm_run.specs.TallyRun.{tally_letters}
@@ -96,7 +94,7 @@ module _ {S : Type 0} (left : S → ExposedBytes) (faults : S → ℕ) (old : Jo
     ended = λ done none no_fault few. rw no_fault (
       met.end_all_given.1,
       nothing_left (left now)
-      (subst (λ held. NothingLeft (to_come held (left now))) met.end_all_given.1 (subst NothingLeft (sym gave.to_come_stands) met.end_nothing_left)),
+          (subst (λ held. NothingLeft (to_come held (left now))) met.end_all_given.1 (subst NothingLeft (sym gave.to_come_stands) met.end_nothing_left)),
       took.faults_stand ∙ none,
     );
   }
@@ -123,6 +121,8 @@ module _ {S : Type 0} (left : S → ExposedBytes) (faults : S → ℕ) (old : Jo
       refl,
       omega (arith, met.too_long_number, gave.number_stands, few),
       took.faults_stand ∙ none,
+      old.reader.held,
+      met.too_long_by_a_piece,
     );
   }
 
@@ -155,12 +155,18 @@ took_line left faults old reader one me before now text item gave took is never 
 
 -- ---- what the job keeps
 
--- the rank has entered its barrier, or it is still outside
-entered_if : (own : ℕ → ℕ → List Letter) (rounds : ℕ → ℕ) (barrier : BarrierState) (me : Rank Counts) (post : PostState) (ended : Bool) → barrier.inside ≡ false →
-    Carries counting_apply (λ _. []) own rounds barrier me post → Carries counting_apply (λ _. []) own rounds (record barrier { inside = ended }) me post
-entered_if own rounds barrier me post true outside carries = carries_entered counting_apply (λ _. []) own rounds barrier me post carries
-entered_if own rounds barrier me post false outside carries =
-    subst (λ b. Carries counting_apply (λ _. []) own rounds (record barrier { inside = b }) me post) outside carries
+-- the rank enters its barrier
+pub keeps_entered : (content : ExposedBytes) (job : JobState) (me : Rank Counts) (barrier : BarrierState) (post : PostState) (left : ExposedBytes) →
+    KeepsJob content job me barrier post left → KeepsJob content job me (record barrier { inside = true }) post left
+keeps_entered content job me barrier post left was = record {
+  raws = was.raws;
+  rounds = was.rounds;
+  read = was.read;
+  carries = carries_entered counting_apply (λ _. []) (tally_letters me.layout.ranks me.here (map text_of was.raws)) was.rounds barrier me post was.carries;
+  counted = was.counted;
+  few = was.few;
+  most = was.most;
+}
 
 module _ (barrier : BarrierState) (post : PostState) (outside : barrier.inside ≡ false) (first : barrier.left ≡ 0) (rounds : ℕ → ℕ)
     (one me : Rank Counts) (agrees : (log : List Entry) → Agrees counting_apply (λ _. []) one log → Agrees counting_apply (λ _. []) me log) where
@@ -176,10 +182,10 @@ module _ (barrier : BarrierState) (post : PostState) (outside : barrier.inside �
       let all = earlier ++ raw ∷ [] in
       carries_same counting_apply (λ _. []) (with_more one.here own barrier.left letters) (tally_letters me.layout.ranks me.here (map text_of all)) rounds rounds barrier me post
       (λ k to.
-          ap (λ (r : Rank Counts). tally_letters r.layout.ranks r.here (map text_of all) k to) sends.rank
-          ∙ ap (λ w. tally_letters one.layout.ranks one.here w k to) (map-append text_of earlier (raw ∷ []))
-          ∙ one_line_more one.layout.ranks one.here lines (text_of raw) k to
-          ∙ ap (λ n. with_more one.here own n letters k to) (sym first))
+      ap (λ (r : Rank Counts). tally_letters r.layout.ranks r.here (map text_of all) k to) sends.rank
+      ∙ ap (λ w. tally_letters one.layout.ranks one.here w k to) (map-append text_of earlier (raw ∷ []))
+      ∙ one_line_more one.layout.ranks one.here lines (text_of raw) k to
+      ∙ ap (λ n. with_more one.here own n letters k to) (sym first))
       (λ k lt. refl)
       (carries_sent counting_apply (λ _. []) own rounds barrier one me _ post outside sends agrees carries)
   carries_lines earlier (raw ∷ other ∷ raws) sent carries = absurd sent
@@ -198,37 +204,59 @@ module _ (barrier : BarrierState) (post : PostState) (outside : barrier.inside �
       )
   counts_lines earlier (raw ∷ other ∷ raws) sent counted most few = absurd sent
 
--- after a turn of the reader the rank reads on, or enters its barrier
-pub in_job_read : {S : Type 0} (left : S → ExposedBytes) (faults : S → ℕ) (content : ExposedBytes) (old new : JobState) (one me : Rank Counts)
-    (barrier : BarrierState) (post : PostState) (before now : S) (ended : Bool) → ended ≡ new.reader.done → barrier.inside ≡ false →
-    HasReadOn old new one me (left before) (left now) (faults before) (faults now) →
-    ((log : List Entry) → Agrees counting_apply (λ _. []) one log → Agrees counting_apply (λ _. []) me log) →
-    InJob left faults content old one barrier post (Some before) →
-    InJob left faults content new me (record barrier { inside = ended }) post (Some now)
-in_job_read left faults content old new one me barrier post before now ended is_done outside on agrees was =
-    let keeps = was.keeps in
-    let counts = counts_lines barrier post outside was.first keeps.rounds one me agrees keeps.raws on.raws on.sent keeps.counted keeps.most keeps.few in
-    let reads = was.outside outside in
-    record {
-      keeps = record {
-        raws = keeps.raws ++ on.raws;
-        rounds = keeps.rounds;
-        read = on.read content keeps.raws keeps.few keeps.read;
-        carries =
-            entered_if (tally_letters me.layout.ranks me.here (map text_of (keeps.raws ++ on.raws))) keeps.rounds barrier me post ended outside
-            (carries_lines barrier post outside was.first keeps.rounds one me agrees keeps.raws on.raws on.sent keeps.carries);
-        counted = counts.0;
-        few = counts.1;
-        most = counts.2;
-      };
-      going = counts.3 ∙ was.going;
-      first = was.first;
-      no_source = λ e. absurd cc;
-      outside = λ e.
-          let on_still = on.going_on (sym is_done ∙ e) in
-          (sym is_done ∙ e, on_still.0 ∙ reads.1, on_still.1 ∙ reads.2);
-      inside = λ e. on.ended (sym is_done ∙ e) reads.2 reads.1 (omega (arith, keeps.read.given, keeps.few));
-    }
+module _ {S : Type 0} (left : S → ExposedBytes) (faults : S → ℕ) (content : ExposedBytes) (old new : JobState) (one me : Rank Counts)
+    (barrier : BarrierState) (post : PostState) (before now : S) (outside : barrier.inside ≡ false)
+    (on : HasReadOn old new one me (left before) (left now) (faults before) (faults now))
+    (agrees : (log : List Entry) → Agrees counting_apply (λ _. []) one log → Agrees counting_apply (λ _. []) me log)
+    (was : InJob left faults content old one barrier post (Some before)) where
+  counts : (me.sent_count ≡ length (was.keeps.raws ++ on.raws)) × (length (was.keeps.raws ++ on.raws) ≤ most_letters) × (me.most ≡ most_letters) × (me.stopped ≡ one.stopped)
+  counts = counts_lines barrier post outside was.first was.keeps.rounds one me agrees was.keeps.raws on.raws on.sent was.keeps.counted was.keeps.most was.keeps.few
+
+  pub going_read : me.stopped ≡ false
+  going_read = counts.3 ∙ was.going
+
+  -- the job keeps what it keeps
+  pub keeps_read : KeepsJob content new me barrier post (left now)
+  keeps_read = record {
+    raws = was.keeps.raws ++ on.raws;
+    rounds = was.keeps.rounds;
+    read = on.read content was.keeps.raws was.keeps.few was.keeps.read;
+    carries = carries_lines barrier post outside was.first was.keeps.rounds one me agrees was.keeps.raws on.raws on.sent was.keeps.carries;
+    counted = counts.0;
+    few = counts.1;
+    most = counts.2;
+  }
+
+  -- and then it goes on, inside its barrier where its reading has ended
+  pub in_job_read : (last : Rank Counts) (after : PostState) (ended : Bool) → ended ≡ new.reader.done → last.stopped ≡ false →
+      KeepsJob content new last (record barrier { inside = ended }) after (left now) →
+      InJob left faults content new last (record barrier { inside = ended }) after (Some now)
+  in_job_read last after ended is_done going keeps =
+      let reads = was.outside outside in
+      record {
+        keeps = keeps;
+        going = going;
+        first = was.first;
+        no_source = λ e. absurd cc;
+        outside = λ e.
+            let on_still = on.going_on (sym is_done ∙ e) in
+            (sym is_done ∙ e, on_still.0 ∙ reads.1, on_still.1 ∙ reads.2);
+        inside = λ e. on.ended (sym is_done ∙ e) reads.2 reads.1 (omega (arith, was.keeps.read.given, was.keeps.few));
+      }
+
+-- a rank without a file enters its barrier at once
+pub in_job_without : {S : Type 0} (left : S → ExposedBytes) (faults : S → ℕ) (content : ExposedBytes) (job : JobState) (one me : Rank Counts)
+    (barrier : BarrierState) (before after : PostState) → barrier.inside ≡ false → InJob left faults content job one barrier before None → me.stopped ≡ false →
+    KeepsJob content job me (record barrier { inside = true }) after (Some []) →
+    InJob left faults content job me (record barrier { inside = true }) after None
+in_job_without left faults content job one me barrier before after outside was going keeps = record {
+  keeps = keeps;
+  going = going;
+  first = was.first;
+  no_source = was.no_source;
+  outside = λ e. absurd (false≢true (sym e));
+  inside = λ _. rw (was.outside outside).1 (was.no_source refl, refl, refl);
+}
 
 -- a rank has no file, or one
 pub none_or_some : {X : Type 0} (source : Option X) → (source ≡ None) ⊎ ((x : X) × (source ≡ Some x))

@@ -1,5 +1,5 @@
 -- Turns of a job.
-use Rattle.std.proofs.Common.{◌≡◌, ℕ, false, List, [], length, map, refl, sym, ap, ◌∙◌, subst, arith, Option}
+use Rattle.std.proofs.Common.{◌≡◌, false, List, [], length, map, refl, sym, ap, ◌∙◌, subst, arith}
 use Rattle.ygm_io.specs.Content.{ExposedBytes}
 use Rattle.world_core.specs.declared.entry.Entry.{Entry}
 use Rattle.world_core.specs.Pairs.{for_rank}
@@ -14,7 +14,7 @@ use Rattle.term_barrier.specs.Barriers.{BarrierState}
 use Rattle.term_barrier.specs.Carried.{Carries}
 use Rattle.term_barrier.proofs.Carried.Turned.{carries_turned}
 use Rattle.ygm_run.specs.Lines.{text_of}
-use Rattle.ygm_run.specs.RankJobs.{InJob, JobState, KeepsJob, left_in}
+use Rattle.ygm_run.specs.RankJobs.{JobState, KeepsJob}
 use Rattle.ygm_run.specs.TallyRun.{tally_letters}
 
 -- a turn of a rank that counts sends nothing
@@ -26,7 +26,7 @@ sends_nothing old new before after turn turned =
 
 module _ (content : ExposedBytes) (job : JobState) (old new : Rank Counts) (barrier : BarrierState) (before after : PostState) (turn : Turn)
     (worked : Worked (record old { stopped = false }) new) (ended : HasEnded counting_apply (λ _. []) old new before after turn) where
-  keeps_turned : (left : ExposedBytes) → KeepsJob content job old barrier before left → KeepsJob content job new barrier after left
+  pub keeps_turned : (left : ExposedBytes) → KeepsJob content job old barrier before left → KeepsJob content job new barrier after left
   keeps_turned left was = record {
     raws = was.raws;
     rounds = was.rounds;
@@ -39,15 +39,4 @@ module _ (content : ExposedBytes) (job : JobState) (old new : Rank Counts) (barr
     counted = sends_nothing old new (before.log old.here) (after.log old.here) turn ended.turned ∙ was.counted;
     few = was.few;
     most = ap (λ (me : Rank Counts). me.most) worked ∙ was.most;
-  }
-
-  pub in_job_turned : {S : Type 0} (left : S → ExposedBytes) (faults : S → ℕ) (source : Option S) →
-      InJob left faults content job old barrier before source → InJob left faults content job new barrier after source
-  in_job_turned left faults source was = record {
-    keeps = keeps_turned (left_in left source) was.keeps;
-    going = ap (λ (me : Rank Counts). me.stopped) worked;
-    first = was.first;
-    no_source = was.no_source;
-    outside = was.outside;
-    inside = was.inside;
   }

@@ -1,4 +1,4 @@
-use Rattle.std.proofs.Common.{sym, ◌∙◌}
+use Rattle.std.proofs.Common.{sym}
 use Rattle.std.proofs.lemmas.Bool.{false≢true}
 use Rattle.ygm_run.proofs.RankJobs.Read.{met_end, met_fault, met_too_long, reads_on, took_line}
 use Rattle.ygm_run.proofs.job.Job.read_on.Goals as goal

@@ -1,20 +1,27 @@
-use Rattle.std.proofs.Common.{inl, inr, None, Some, sym, ◌∙◌}
+use Rattle.std.proofs.Common.{[], Some, None, inl, inr, sym, ap, ◌∙◌}
 use Rattle.std.proofs.lemmas.Result.{err_from_is_err_and}
-use Rattle.std.specs.Option.{option_copied_mut}
-use Rattle.ygm_run.specs.RankJobs.{left_in}
-use Rattle.ygm_run.proofs.Inputs.IsRest.{rest_none, rest_more}
-use Rattle.ygm_run.proofs.RankJobs.Polled.{polled_once}
-use Rattle.ygm_run.proofs.RankJobs.Read.{full_file, none_or_some}
-use Rattle.ygm_run.proofs.RankJobs.Turned.{in_job_turned}
+use Rattle.ygm_run.specs.RankJobs.{JobState, KeepsJob}
+use Rattle.ygm_run.proofs.Inputs.IsRest.{rest_none}
+use Rattle.ygm_run.proofs.RankJobs.Polled.{gone_on, polled_once}
+use Rattle.ygm_run.proofs.RankJobs.Read.{full_file, in_job_read, in_job_without, keeps_read, none_or_some}
 use Rattle.ygm_run.proofs.job.Job.turn.Goals as goal
-use Rattle.ygm_run.proofs.job.Job.turn.Goals.{then-branch, else-branch}
 
 pub returns-then-inside-clause-turned : goal.returns-then-inside-clause-turned
 returns-then-inside-clause-turned g c =
+    let left = g.S.Source.left in
+    let faults = g.S.Source.faults in
+    let job = c.args.self.now in
+    let one = c.args.comm.now in
+    let me = c.wait.new.comm in
+    let old = c.args.barrier.now in
+    let new = c.wait.new.barrier in
+    let before = g.P.Post.state c.args.post.now in
+    let after = g.P.Post.state c.wait.new.post in
+    let waits = c.wait.ensures in
     let inside = sym c.inside.ensures ∙ c.if-inside.true in
     elim (none_or_some c.args.src) [
-      | inl is ↦ rw is (λ content was. polled_once g.S.Source.left g.S.Source.faults content c.args.self.now c.args.barrier.now c.wait.new.barrier c.args.comm.now c.wait.new.comm (g.P.Post.state c.args.post.now) (g.P.Post.state c.wait.new.post) _ c.wait.result inside (c.wait.ensures.kept content c.args.self.now _) c.wait.ensures.step c.wait.ensures.never_full was)
-      | inr (src, is) ↦ rw is (λ content was. polled_once g.S.Source.left g.S.Source.faults content c.args.self.now c.args.barrier.now c.wait.new.barrier c.args.comm.now c.wait.new.comm (g.P.Post.state c.args.post.now) (g.P.Post.state c.wait.new.post) _ c.wait.result inside (c.wait.ensures.kept content c.args.self.now _) c.wait.ensures.step c.wait.ensures.never_full was)
+      | inl is ↦ rw is (λ content was. polled_once left faults content job old new one me before after None c.wait.result inside (waits.kept content job (Some [])) waits.step waits.never_full was)
+      | inr (src, is) ↦ rw is (λ content was. polled_once left faults content job old new one me before after (Some src.now) c.wait.result inside (waits.kept content job (left src.now)) waits.step waits.never_full was)
     ]
 
 pub returns-then-inside-clause-rest : goal.returns-then-inside-clause-rest
@@ -23,50 +30,59 @@ returns-then-inside-clause-rest g c = elim (none_or_some c.args.src) [
   | inr (src, is) ↦ rw is (rest_none _)
 ]
 
-pub returns-in_err-read-clause-turned : goal.returns-in_err-read-clause-turned
-returns-in_err-read-clause-turned g c =
+-- a rank without a file
+
+pub returns-in_default-clause-turned : goal.returns-in_default-clause-turned
+returns-in_default-clause-turned g c =
+    let left = g.S.Source.left in
+    let faults = g.S.Source.faults in
+    let job = c.args.self.now in
+    let me = c.go_on.new.comm in
+    let barrier = c.go_on.new.barrier in
+    let before = g.P.Post.state c.args.post.now in
+    let after = g.P.Post.state c.go_on.new.post in
+    let outside = sym c.inside.ensures ∙ c.if-inside.false in
+    rw c.in_default.is (λ content was.
+    gone_on left faults content job me barrier after None c.go_on.result (KeepsJob content job me barrier after (Some []))
+    (c.go_on.ensures.kept content job (Some []) was.keeps) c.go_on.ensures.step c.go_on.ensures.never_full
+    (λ going keeps. rw c.go_on.ensures.entered
+    (in_job_without left faults content job c.args.comm.now me c.args.barrier.now before after outside was going (rw c.go_on.ensures.entered at keeps))))
+
+-- a turn of the reader
+
+pub returns-in_err-read_on-clause-turned : goal.returns-in_err-read_on-clause-turned
+returns-in_err-read_on-clause-turned g c =
     let fault = err_from_is_err_and c.from_residual.result c.from_residual.ensures.1 in
-    rw (fault.1, fault.2)
-    (λ content was. full_file content c.args.self.now c.args.comm.now c.args.barrier.now (g.P.Post.state c.args.post.now) (left_in g.S.Source.left (option_copied_mut c.args.src)) was.keeps
-    c.in_err-read.field-0.0 c.in_err-read.ensures.full)
+    rw c.in-Some.is (rw (fault.1, fault.2) (λ content was.
+    full_file content c.args.self.now c.args.comm.now c.args.barrier.now (g.P.Post.state c.args.post.now) (g.S.Source.left c.in-Some.source.now) was.keeps c.in_err-read_on.field-0.0 c.in_err-read_on.ensures.full))
 
-pub returns-in_err-read-clause-rest : goal.returns-in_err-read-clause-rest
-returns-in_err-read-clause-rest g c = c.read.ensures.rest
-
-pub enter-requires-clause-going : goal.enter-requires-clause-going
-enter-requires-clause-going g c =
-    let outside = sym c.inside.ensures ∙ c.if-inside.false in
-    (c.in_ok-read.ensures.read c.requires.in_job.0 c.args.barrier.now (g.P.Post.state c.args.post.now) outside c.requires.in_job.1).going
-
-pub turn-requires-clause-going : goal.turn-requires-clause-going
-turn-requires-clause-going g c =
-    let outside = sym c.inside.ensures ∙ c.if-inside.false in
-    let read = c.in_ok-read.ensures.read c.requires.in_job.0 c.args.barrier.now (g.P.Post.state c.args.post.now) outside c.requires.in_job.1 in
-    elim c.if-branch.branch [
-      | then-branch w ↦ rw w.comm-is (rw w.enter.ensures.unchanged read.going)
-      | else-branch w ↦ rw w.comm-is read.going
-    ]
-
-pub turn-requires-clause-belongs : goal.turn-requires-clause-belongs
-turn-requires-clause-belongs g c =
-    let outside = sym c.inside.ensures ∙ c.if-inside.false in
-    let read = c.in_ok-read.ensures.read c.requires.in_job.0 c.args.barrier.now (g.P.Post.state c.args.post.now) outside c.requires.in_job.1 in
-    elim c.if-branch.branch [
-      | then-branch w ↦ rw w.comm-is (rw w.enter.ensures.unchanged read.keeps.carries.stands.belongs)
-      | else-branch w ↦ rw w.comm-is read.keeps.carries.stands.belongs
-    ]
-
-pub returns-in_err-turn-clause-rest : goal.returns-in_err-turn-clause-rest
-returns-in_err-turn-clause-rest g c = elim (none_or_some c.args.src) [
-  | inl is ↦ rw is ?none
-  | inr (src, is) ↦ rw is ?some
-]
+pub returns-in_err-read_on-clause-rest : goal.returns-in_err-read_on-clause-rest
+returns-in_err-read_on-clause-rest g c = rw c.in-Some.is c.read_on.ensures.rest
 
 pub returns-clause-turned : goal.returns-clause-turned
-returns-clause-turned g c = ?turned
+returns-clause-turned g c =
+    let left = g.S.Source.left in
+    let faults = g.S.Source.faults in
+    let old = c.args.self.now in
+    let new = c.read_on.new.self in
+    let one = c.args.comm.now in
+    let mid = c.read_on.new.comm in
+    let me = c.go_on-2.new.comm in
+    let start = c.args.barrier.now in
+    let barrier = c.go_on-2.new.barrier in
+    let before = g.P.Post.state c.args.post.now in
+    let after = g.P.Post.state c.go_on-2.new.post in
+    let source = c.in-Some.source.now in
+    let now = c.read_on.new.source in
+    let outside = sym c.inside.ensures ∙ c.if-inside.false in
+    let on = c.in_ok-read_on.ensures.read in
+    let agrees = c.in_ok-read_on.ensures.agrees in
+    rw c.in-Some.is (λ content was.
+    gone_on left faults content new me barrier after (Some now) c.go_on-2.result (KeepsJob content new me barrier after (left now))
+    (c.go_on-2.ensures.kept content new (left now) (keeps_read left faults content old new one mid start before source now outside on agrees was)) c.go_on-2.ensures.step c.go_on-2.ensures.never_full
+    (λ going keeps. rw c.go_on-2.ensures.entered
+    (in_job_read left faults content old new one mid start before source now outside on agrees was me after c.done.result
+    (c.done.ensures ∙ ap (λ (job : JobState). job.reader.done) c.self.view_is) going (rw c.go_on-2.ensures.entered at keeps))))
 
 pub returns-clause-rest : goal.returns-clause-rest
-returns-clause-rest g c = elim c.args.src [
-  | None ↦ ?none
-  | Some src ↦ ?some
-]
+returns-clause-rest g c = rw c.in-Some.is c.read_on.ensures.rest
