@@ -40,6 +40,7 @@ test:
 	@sh checks/contracts_test.sh
 	@sh checks/refusals.sh $(PROGRAM)
 	@sh checks/against_sort.sh $(PROGRAM) README.md docs/*.md
+	@sh checks/generated.sh $(PROGRAM) 100000
 
 install: all
 	install -D $(PROGRAM) $(DESTDIR)$(PREFIX)/bin/ygm_run

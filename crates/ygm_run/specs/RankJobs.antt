@@ -18,7 +18,7 @@ use Rattle.ygm_run.specs.declared.job.Step.TheVariants.{Going, Finished}
 use Rattle.ygm_run.specs.declared.status.InputFault.{InputFault}
 use Rattle.ygm_run.specs.Lines.{text_of}
 use Rattle.ygm_run.specs.Reading.{Reading}
-use Rattle.ygm_run.specs.ReadLines.{EndedWith, HasLine, HasReadLines, IsFullFile}
+use Rattle.ygm_run.specs.ReadLines.{EndedWith, HasLine, HasReadLines, IsFullFile, StopsAtPiece}
 use Rattle.ygm_run.specs.TallyRun.{tally_letters}
 use Rattle.ygm_run.specs.Turns.{to_come}
 
@@ -103,12 +103,14 @@ pub record InJob {S : Type 0} (left : S → ExposedBytes) (faults : S → ℕ) (
   pub outside : barrier.inside ≡ false → (job.reader.done ≡ false) × (job.fault ≡ None) × (faults_in faults source ≡ 0)
   pub inside : barrier.inside ≡ true → EndedWith job.fault job.reader (left_in left source) (faults_in faults source)
 
--- a job that is done: its reading has ended, and the rank has left its barrier
+-- A job that is done: its reading has ended, a file with a bad line at the piece that made the line bad, and the rank has
+-- left its barrier.
 pub record HasFinished {S : Type 0} (left : S → ExposedBytes) (faults : S → ℕ) (content : ExposedBytes) (job : JobState)
     (me : Rank Counts) (barrier : BarrierState) (post : PostState) (source : Option S) : Type 0 where
   pub keeps : KeepsJob content job me barrier post (left_in left source)
   pub passed : barrier.left ≡ 1
   pub ended : EndedWith job.fault job.reader (left_in left source) (faults_in faults source)
+  pub stops : StopsAtPiece content (left_in left source) job.fault
 
 -- what holds after a turn of the job, by what it returned
 abbrev pub JobTurned : {S : Type 0} → (S → ExposedBytes) → (S → ℕ) → ExposedBytes → Result Step CommFault → JobState

@@ -5,11 +5,13 @@ use Rattle.ygm_io.specs.Content.{ExposedBytes, TakenFrom, NothingLeft}
 use Rattle.world_core.specs.Limits.{most_letters}
 use Rattle.ygm_run.specs.declared.status.InputFault.{InputFault}
 use Rattle.ygm_run.specs.declared.status.InputFault.TheVariants.{Read, Bad}
+use Rattle.ygm_run.specs.declared.status.LineWhy.{LineWhy}
 use Rattle.ygm_run.specs.declared.status.LineWhy.TheVariants.{TooLong}
-use Rattle.ygm_run.specs.Limits.{max_line}
+use Rattle.ygm_run.specs.BadLines.{first_wrong, tally_wrong}
+use Rattle.ygm_run.specs.Limits.{max_line, max_piece}
 use Rattle.ygm_run.specs.Lines.{lines_of, raw_lines, LacksLf, StartsTooLong}
 use Rattle.ygm_run.specs.Reading.{Reading}
-use Rattle.ygm_run.specs.Turns.{RawLineTaken, to_come}
+use Rattle.ygm_run.specs.Turns.{PieceBehind, RawLineTaken, to_come}
 
 -- These raw lines were taken, the first ones. They come before the raw lines of any prefix of what is still to come.
 pub record LinesTaken (raws : List (List ℕ)) (before now : ExposedBytes) : Type 0 where
@@ -24,13 +26,19 @@ pub record HasReadLines (content : ExposedBytes) (reader : Reading) (left : Expo
   pub short : AllByRecursion (λ raw. length raw ≤ max_line) raws
   pub given : reader.given ≡ length raws
 
--- Why the reading of a file ended: all of it was read, a read failed while no bad line was held, or the next line is too
--- long. `faults` is the count of faults of its source, which was 0 at first.
+-- Why the reading of a file ended: all of it was read, a read failed while no bad line was held, or the last piece made the
+-- next line too long. `faults` is the count of faults of its source, which was 0 at first.
 abbrev pub EndedWith : Option InputFault → Reading → ExposedBytes → ℕ → Type 0
 EndedWith None reader left faults = (reader.held ≡ []) × NothingLeft left × (faults ≡ 0)
 EndedWith (Some Read) reader left faults = (0 < faults) × LacksLf reader.held × (length reader.held ≤ max_line)
 EndedWith (Some (Bad line why)) reader left faults =
     IfSome (to_come reader.held left) StartsTooLong × (why ≡ TooLong) × (line ≡ reader.given + 1) × (faults ≡ 0)
+    × (before : List ℕ) × PieceBehind before reader.held
+
+-- What was read before the piece that made a line bad has no bad line, and nothing was read after that piece.
+abbrev pub StopsAtPiece : ExposedBytes → ExposedBytes → Option InputFault → Type 0
+StopsAtPiece content left fault = (line : ℕ) (why : LineWhy) → fault ≡ Some (Bad line why) → (front piece : List ℕ)
+    × (length piece ≤ max_piece) × TakenFrom (front ++ piece) content left × (first_wrong tally_wrong (raw_lines front) ≡ None)
 
 -- A count of letters is full at this limit, by the lines of a file: it has more lines than a rank may send letters.
 pub record IsFullFile (content : ExposedBytes) (limit : ℕ) : Type 0 where

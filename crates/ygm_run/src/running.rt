@@ -146,7 +146,7 @@ fn run_tally<R: Wait, F: Files, O: Sink>(
     ensures ends { let contents = map (F.content files.old) (texts_of names.now) in
         let sources = result.sources.items in
         Ends (opens F.Src.left F.Src.faults contents sources (F.faults files.old) (F.faults files.new)
-        ∷ counts (length names.now) contents
+        ∷ counts (length contents) contents
         ∷ inputs tally_wrong F.Src.left F.Src.faults contents sources
         ∷ writes (O.faults out.old) (O.faults out.new)
         ∷ []) result.status }

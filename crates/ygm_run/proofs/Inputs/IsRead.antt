@@ -9,7 +9,7 @@ use Rattle.ygm_io.specs.Content.{ExposedBytes, TakenFrom}
 use Rattle.ygm_run.specs.declared.status.InputFault.{InputFault}
 use Rattle.ygm_run.specs.declared.status.InputFault.TheVariants.{Read, Bad}
 use Rattle.ygm_run.specs.BadLines.{first_wrong, tally_wrong}
-use Rattle.ygm_run.specs.ReadLines.{EndedWith, LinesTaken}
+use Rattle.ygm_run.specs.ReadLines.{EndedWith, LinesTaken, StopsAtPiece}
 use Rattle.ygm_run.specs.Inputs.{IsRead}
 use Rattle.world_core.specs.Limits.{most_letters}
 use Rattle.ygm_run.specs.Limits.{max_line}
@@ -57,3 +57,14 @@ was_read left faults raws reader before source (Some (Bad line why)) short taken
 } where
   bad_line_is : IfSome before (λ bytes. Some line ≡ first_too_long (raw_lines bytes))
   bad_line_is = subst (λ k. IfSome before (λ bytes. Some k ≡ first_too_long (raw_lines bytes))) (omega (arith, given, ended.2)) (too_long_given raws reader.held before (left source) short taken ended.0)
+
+-- A file with a bad line was read no further than the piece that made the line bad.
+pub stopped_at_piece : (raws : List (List ℕ)) (reader : Reading) (before left : ExposedBytes) (faults : ℕ) (fault : Option InputFault)
+    → AllByRecursion (λ raw. length raw ≤ max_line) raws
+    → LinesTaken raws before (to_come reader.held left) → EndedWith fault reader left faults → StopsAtPiece before left fault
+stopped_at_piece raws reader before left faults None short taken ended line why e = absurd cc
+stopped_at_piece raws reader before left faults (Some Read) short taken ended line why e = absurd cc
+stopped_at_piece raws reader before left faults (Some (Bad found reason)) short taken ended line why e =
+    let last = ended.5 in
+    let f = front_read raws ended.4 last.piece reader.held before left last.behind last.partial last.short short taken in
+    (f.0, last.piece, last.one, f.1, none_wrong (raw_lines f.0) f.2)

@@ -18,9 +18,10 @@ use Rattle.term_barrier.proofs.Carried.Polled.{carries_left, carries_waited}
 use Rattle.ygm_run.specs.declared.job.Step.{Step}
 use Rattle.ygm_run.specs.declared.job.Step.TheVariants.{Going, Finished}
 use Rattle.ygm_run.specs.Lines.{text_of}
-use Rattle.ygm_run.specs.RankJobs.{HasGoneOn, HasPolledOnce, InJob, JobState, JobTurned, KeepsJob, left_in}
+use Rattle.ygm_run.specs.RankJobs.{HasGoneOn, HasPolledOnce, InJob, JobState, JobTurned, KeepsJob, faults_in, left_in}
 use Rattle.ygm_run.specs.ReadLines.{IsFullFile}
 use Rattle.ygm_run.specs.TallyRun.{tally_letters}
+use Rattle.ygm_run.proofs.Inputs.IsRead.{stopped_at_piece}
 use Rattle.ygm_run.proofs.RankJobs.Turned.{sends_nothing}
 
 module _ (content : ExposedBytes) (job : JobState) (left : ExposedBytes) (old new : BarrierState) (one me : Rank Counts) (before after : PostState)
@@ -83,6 +84,7 @@ polled_once left faults content job old new one me before after source (Ok Finis
   keeps = kept was.keeps;
   passed = step ∙ ap (λ n. n + 1) was.first;
   ended = was.inside inside;
+  stops = stopped_at_piece was.keeps.raws job.reader content (left_in left source) (faults_in faults source) job.fault was.keeps.read.short was.keeps.read.taken (was.inside inside);
 }
 polled_once left faults content job old new one me before after source (Err fault) inside kept step full was = never_full fault (IsFullFile content) full
 

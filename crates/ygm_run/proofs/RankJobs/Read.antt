@@ -121,6 +121,8 @@ module _ {S : Type 0} (left : S → ExposedBytes) (faults : S → ℕ) (old : Jo
       refl,
       omega (arith, met.too_long_number, gave.number_stands, few),
       took.faults_stand ∙ none,
+      old.reader.held,
+      met.too_long_by_a_piece,
     );
   }
 
