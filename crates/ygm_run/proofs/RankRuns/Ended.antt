@@ -8,7 +8,7 @@ use Rattle.list_facts.proofs.Fields.{field_at}
 use Rattle.msg_codec.specs.declared.letter.Letter.{Letter}
 use Rattle.ygm_io.specs.Content.{ExposedBytes}
 use Rattle.ygm_route.specs.declared.scheme.Scheme.TheVariants.{Direct}
-use Rattle.ygm_route.specs.Layout.{Shape}
+use Rattle.ygm_route.specs.Layout.{Shape, max_ranks}
 use Rattle.world_core.specs.declared.entry.Entry.{Entry}
 use Rattle.world_core.specs.Local.{local_rank}
 use Rattle.world_core.specs.Plain.{Plain, state_of}
@@ -226,3 +226,9 @@ has_run left faults layout start runs links sources are ended few sound shards w
   read = all_read left faults layout start runs links sources are ended well.none_stopped well.no_faults few;
   complete = λ bytes exposed. tally_run left faults layout start runs links sources are ended well.none_stopped well.no_faults sound bytes exposed shards well.shards_are;
 }
+
+-- a sound world has few ranks
+pub few_ranks : {S : Type 0} (left : S → ExposedBytes) (faults : S → ℕ) (layout : Shape) (start : List S) (runs : List RankRun) (links : Plain) (sources : List S)
+    → AreRuns left faults layout start runs links sources → IsSound links.world → length runs ≤ max_ranks
+few_ranks left faults layout start runs links sources are sound =
+    let few = sound.laid_out.few_ranks in omega (arith, few, are.all, ap (λ (l : Shape). l.ranks) are.same_world)
