@@ -5,13 +5,13 @@ use Rattle.comm_rank.specs.Fold.{Applies}
 use Rattle.comm_rank.specs.declared.fault.CommFault.{CommFault}
 use Rattle.comm_rank.specs.declared.fault.CommFault.TheVariants.{Stopped, CountFull, NoMemory}
 
--- a fact of a call that met the stop as it began
+-- a fact of a turn, a poll or a barrier that met the stop
 abbrev pub IfStopped : CommFault → Type 0 → Type 0
 IfStopped Stopped P = P
 IfStopped (CountFull at) P = ⊤
 IfStopped NoMemory P = ⊤
 
--- a fact of a call that failed at the rank itself
+-- a fact of a turn, a poll or a barrier that failed at the rank itself
 abbrev pub UnlessStopped : CommFault → Type 0 → Type 0
 UnlessStopped Stopped P = ⊤
 UnlessStopped (CountFull at) P = P

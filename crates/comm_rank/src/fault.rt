@@ -9,16 +9,16 @@ use thiserror::Error;
 /// Why a letter wasn't sent, or a turn failed.
 #[derive(Clone, Copy, Debug, PartialEq, Eq, Error)]
 pub enum CommFault {
-    /// A rank had raised the stop. The turn that met it did nothing, and its rank is stopped for good. A send never
-    /// returns this.
+    /// A rank had raised the stop. The turn that met it, by itself or in a poll or a barrier, did nothing, and its rank is
+    /// stopped for good. A send never returns this.
     #[error("a rank has stopped")]
     Stopped,
-    /// The rank has sent as many letters as it may. Each later send is refused too. After a turn or a barrier the rank
-    /// is stopped for good.
+    /// The rank has sent as many letters as it may. Each later send is refused too. After a turn, a poll or a
+    /// barrier the rank is stopped for good.
     #[error("the rank is at its limit of letters")]
     CountFull(AtLimit),
-    /// Out of memory. A send changed nothing and may be tried again; after a turn or a barrier the rank is stopped for
-    /// good.
+    /// Out of memory. A send changed nothing and may be tried again; after a turn, a poll or a barrier the rank is
+    /// stopped for good.
     #[error("out of memory")]
     NoMemory,
 }

@@ -1,5 +1,5 @@
 -- A rank still agrees with its log after it handed over a control letter, or put one.
-use Rattle.std.proofs.Common.{◌≡◌, ℕ, ◌-◌, true, false, Option, Some, None, map, List, [], ◌∷◌, ◌++◌, length, take, refl, sym, ap, ◌∙◌, subst, append-nil, inl, inr, arith}
+use Rattle.std.proofs.Common.{◌≡◌, ℕ, ◌-◌, Bool, true, false, Option, Some, None, map, List, [], ◌∷◌, ◌++◌, length, take, refl, sym, ap, ◌∙◌, subst, append-nil, inl, inr, arith}
 use Rattle.std.specs.List.{filter}
 use Rattle.std.specs.Option.{option_to_list}
 use Rattle.std.proofs.lemmas.Bool.{cases_lt, false_from_ne_true, false≢true, or_right}
@@ -30,9 +30,11 @@ use Rattle.comm_rank.proofs.Agrees.Served.{ServedBy, served_more, suffix_shorter
 
 -- ---- one that it took is handed over
 
-pub agrees_handed : {C : Type 0} (apply : Applies C) (start : C → C) (me : Rank C) (log : List Entry) (l : Letter) (controls : List Letter) →
-    Agrees apply start (record me { controls = l ∷ controls }) log → Agrees apply start (record me { controls = controls }) log
-agrees_handed apply start me log l controls agrees = record {
+-- A rank of which only the control letters changed, or whether it is stopped, still agrees with its log, while its control
+-- letters are the last that came.
+pub agrees_with_controls : {C : Type 0} (apply : Applies C) (start : C → C) (me : Rank C) (log : List Entry) (controls : List Letter) (stopped : Bool) →
+    IsSuffix controls (filter is_control (letters_taken log)) → Agrees apply start me log → Agrees apply start (record me { controls = controls; stopped = stopped }) log
+agrees_with_controls apply start me log controls stopped last agrees = record {
   nothing_waits = agrees.nothing_waits;
   forwards = agrees.forwards;
   sent_count = agrees.sent_count;
@@ -40,9 +42,14 @@ agrees_handed apply start me log l controls agrees = record {
   contents = agrees.contents;
   given_is_sent = agrees.given_is_sent;
   modest = agrees.modest;
-  controls = suffix_shorter l controls (filter is_control (letters_taken log)) agrees.controls;
+  controls = last;
   served = agrees.served;
 }
+
+pub agrees_handed : {C : Type 0} (apply : Applies C) (start : C → C) (me : Rank C) (log : List Entry) (l : Letter) (controls : List Letter) →
+    Agrees apply start (record me { controls = l ∷ controls }) log → Agrees apply start (record me { controls = controls }) log
+agrees_handed apply start me log l controls agrees =
+    agrees_with_controls apply start (record me { controls = l ∷ controls }) log controls me.stopped (suffix_shorter l controls (filter is_control (letters_taken log)) agrees.controls) agrees
 
 pub agrees_popped : {C : Type 0} (apply : Applies C) (start : C → C) (me : Rank C) (log : List Entry) (first : Option Control) (items later : List Control) → items ≡ option_to_list first ++ later →
     Agrees apply start (record me { controls = map letter_of_control items }) log → Agrees apply start (record me { controls = map letter_of_control later }) log

@@ -3,17 +3,17 @@ use Rattle.std.proofs.Common.{◌≡◌, ℕ, ◌-◌, ◌<◌, ◌≤◌, inl, 
 use Rattle.std.specs.List.{filter}
 use Rattle.std.proofs.lemmas.Bool.{false≢true}
 use Rattle.std.proofs.lemmas.Option.{none-some}
+use Rattle.list_facts.specs.Prefix.{IsSuffix}
 use Rattle.msg_codec.specs.Control.{is_control}
 use Rattle.msg_codec.specs.declared.letter.Letter.{Letter}
-use Rattle.world_core.specs.declared.entry.Entry.{Entry}
 use Rattle.world_core.specs.Log.{letters_taken}
 use Rattle.world_core.specs.Post.{PostState, SameFulls, local_at}
 use Rattle.world_core.specs.Rules.{IsHonest}
 use Rattle.comm_rank.specs.declared.fault.CommFault.{CommFault}
-use Rattle.comm_rank.specs.Agrees.{Agrees}
 use Rattle.comm_rank.specs.Fold.{Applies}
 use Rattle.comm_rank.specs.Rank.{Rank, halted, held_letters, local_of}
 use Rattle.comm_rank.specs.Turns.{PutsKeep}
+use Rattle.comm_rank.proofs.Agrees.AfterControl.{agrees_with_controls}
 use Rattle.comm_rank.proofs.Moves.OnePut.{keeps_none}
 use Rattle.term_barrier.specs.Barriers.{BarrierAgrees, BarrierState, HasPutTotals, HasRoom, InRange, with_letters}
 use Rattle.term_barrier.specs.Polls.{AfterTurn, FoundFull, HasPutControls, HasPutDue, IsSameBarrier, PolledLeft, PolledWaiting, PutsDue, Stands}
@@ -25,19 +25,6 @@ use Rattle.term_barrier.proofs.Barriers.Room.{room}
 abbrev pub handed_over : {C : Type 0} → Rank C → Rank C
 handed_over me = record me { controls = [] }
 
-agrees_handed_over : {C : Type 0} (apply : Applies C) (start : C → C) (me : Rank C) (log : List Entry) → Agrees apply start me log → Agrees apply start (handed_over me) log
-agrees_handed_over apply start me log agrees = record {
-  nothing_waits = agrees.nothing_waits;
-  forwards = agrees.forwards;
-  sent_count = agrees.sent_count;
-  run_count = agrees.run_count;
-  contents = agrees.contents;
-  given_is_sent = agrees.given_is_sent;
-  modest = agrees.modest;
-  controls = record { before = filter is_control (letters_taken log); joined = append-nil (filter is_control (letters_taken log)) };
-  served = agrees.served;
-}
-
 module _ {C : Type 0} (apply : Applies C) (start : C → C) (barrier : BarrierState) (me : Rank C) (post : PostState)
     (stands : Stands apply start barrier me post) (range : InRange barrier) where
   pub has_room : HasRoom barrier me.controls
@@ -47,16 +34,19 @@ module _ {C : Type 0} (apply : Applies C) (start : C → C) (barrier : BarrierSt
   now = with_letters barrier me.controls
 
   with_agreement : (new : BarrierState) → BarrierAgrees new [] (local_of me (post.log me.here)) → Stands apply start new (handed_over me) post
-  with_agreement new agrees = record {
-    belongs = record {
-      serves = stands.belongs.serves;
-      layout = stands.belongs.layout;
-      scheme = stands.belongs.scheme;
-      agrees = agrees_handed_over apply start me (post.log me.here) stands.belongs.agrees;
-    };
-    may_turn = stands.may_turn;
-    agrees = agrees;
-  }
+  with_agreement new agrees =
+      let log = post.log me.here in
+      let none_left : IsSuffix [] (filter is_control (letters_taken log)) = record { before = _; joined = append-nil _ } in
+      record {
+        belongs = record {
+          serves = stands.belongs.serves;
+          layout = stands.belongs.layout;
+          scheme = stands.belongs.scheme;
+          agrees = agrees_with_controls apply start me log [] me.stopped none_left stands.belongs.agrees;
+        };
+        may_turn = stands.may_turn;
+        agrees = agrees;
+      }
 
   pub stands_handed : Stands apply start now (handed_over me) post
   stands_handed = with_agreement now (agrees_handed_all barrier me.controls (local_of me (post.log me.here)) range stands.agrees)
@@ -162,19 +152,6 @@ polled_waiting held barrier told new before after left inside put = record {
   inside = ap (λ (b : BarrierState). b.inside) put.barrier ∙ inside;
 }
 
-stands_rank : {C : Type 0} (apply : Applies C) (start : C → C) (me : Rank C) (log : List Entry) → Agrees apply start me log → Agrees apply start (halted me) log
-stands_rank apply start me log agrees = record {
-  nothing_waits = agrees.nothing_waits;
-  forwards = agrees.forwards;
-  sent_count = agrees.sent_count;
-  run_count = agrees.run_count;
-  contents = agrees.contents;
-  given_is_sent = agrees.given_is_sent;
-  modest = agrees.modest;
-  controls = agrees.controls;
-  served = agrees.served;
-}
-
 -- a rank that halts still stands with its barrier
 pub stands_halted : {C : Type 0} (apply : Applies C) (start : C → C) (barrier : BarrierState) (me : Rank C) (post : PostState) → Stands apply start barrier me post → Stands apply start barrier (halted me) post
 stands_halted apply start barrier me post stands = record {
@@ -182,7 +159,7 @@ stands_halted apply start barrier me post stands = record {
     serves = stands.belongs.serves;
     layout = stands.belongs.layout;
     scheme = stands.belongs.scheme;
-    agrees = stands_rank apply start me (post.log me.here) stands.belongs.agrees;
+    agrees = agrees_with_controls apply start me (post.log me.here) me.controls true stands.belongs.agrees.controls stands.belongs.agrees;
   };
   may_turn = stands.may_turn;
   agrees = stands.agrees;
