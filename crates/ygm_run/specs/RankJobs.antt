@@ -1,7 +1,7 @@
 -- Only private functions cite this: the job of one rank, which reads its file, sends a letter for each line and passes a
 -- barrier.
 use Rattle.std.proofs.Common.{inl, inr}
-use Rattle.std.specs.Prelude.{◌≡◌, ◌⊎◌, ℕ, ◌+◌, ◌<◌, ◌≤◌, false, true, List, [], ◌∷◌, ◌++◌, Option, None, Some, Result, Ok, Err, length, map}
+use Rattle.std.specs.Prelude.{◌≡◌, ◌⊎◌, ℕ, ◌+◌, ◌<◌, ◌≤◌, Bool, false, true, List, [], ◌∷◌, ◌++◌, Option, None, Some, Result, Ok, Err, length, map}
 use Rattle.std.specs.Borrow.{MutBor}
 use Rattle.ygm_io.specs.Content.{ExposedBytes}
 use Rattle.world_core.specs.Limits.{most_letters}
@@ -88,6 +88,10 @@ pub record KeepsJob (content : ExposedBytes) (job : JobState) (me : Rank Counts)
 abbrev pub HasPolledOnce : Step → BarrierState → BarrierState → Rank Counts → Type 0
 HasPolledOnce Going old new me = (new.inside ≡ true) × (new.left ≡ old.left) × (me.stopped ≡ false)
 HasPolledOnce Finished old new me = new.left ≡ old.left + 1
+
+-- A turn outside the barrier: the job goes on, and the rank has entered its barrier if its reading has ended.
+abbrev pub HasGoneOn : Bool → Step → BarrierState → BarrierState → Rank Counts → Type 0
+HasGoneOn ended step old new me = (step ≡ Going) × (new ≡ record old { inside = ended }) × (me.stopped ≡ false)
 
 -- A job that goes on: outside its barrier the rank still reads; inside, its reading has ended.
 pub record InJob {S : Type 0} (left : S → ExposedBytes) (faults : S → ℕ) (content : ExposedBytes) (job : JobState)

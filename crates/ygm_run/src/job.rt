@@ -9,9 +9,8 @@ ghost use Rattle.comm_rank.specs.Rank.{IsSameRank};
 ghost use Rattle.comm_rank.specs.Turns.{KeepsPost};
 ghost use Rattle.term_barrier.specs.Polls.{Stands};
 ghost use Rattle.counting_set.specs.Counting.{counting_apply};
-ghost use Rattle.ygm_run.specs.declared.job.Step.TheVariants.{Going};
 ghost use Rattle.ygm_run.specs.Inputs.{IsRest};
-ghost use Rattle.ygm_run.specs.RankJobs.{FullAtLine, HasPolledOnce, HasReadOn, InJob, JobState, JobTurned, KeepsJob, fresh_job, left_in, source_after};
+ghost use Rattle.ygm_run.specs.RankJobs.{FullAtLine, HasGoneOn, HasPolledOnce, HasReadOn, InJob, JobState, JobTurned, KeepsJob, fresh_job, left_in, source_after};
 
 use crate::line_reader::{Got, LineFault, LineReader};
 use crate::status::{InputFault, LineWhy};
@@ -141,8 +140,7 @@ fn go_on<P: Post>(
     requires outside { barrier.old.inside ≡ false }
     ensures kept { (content : ExposedBytes) (job : JobState) (left : ExposedBytes) → KeepsJob content job comm.old barrier.old (P.state post.old) left
         → OnOk result (KeepsJob content job comm.new barrier.new (P.state post.new) left) }
-    ensures step { IfOk result (λ step. (step ≡ Going) × (comm.new.stopped ≡ false)) }
-    ensures entered { barrier.new ≡ record barrier.old { inside = ended } }
+    ensures step { IfOk result (λ step. HasGoneOn ended step barrier.old barrier.new comm.new) }
     ensures never_full { IfErr result (λ fault. IfCountFull fault (λ _. ⊥)) }
     ensures same_rank { IsSameRank comm.old comm.new }
     ensures post { KeepsPost comm.old (P.state post.old) (P.state post.new) }

@@ -1,5 +1,5 @@
 -- Polls of a job.
-use Rattle.std.proofs.Common.{◌≡◌, ℕ, ◌+◌, true, false, List, [], map, refl, sym, ap, ◌∙◌, subst, Option, Result, Ok, Err, OnOk, IfOk, IfErr}
+use Rattle.std.proofs.Common.{◌≡◌, ℕ, ◌+◌, Bool, true, false, List, [], map, refl, sym, ap, ◌∙◌, subst, Option, Result, Ok, Err, OnOk, IfOk, IfErr}
 use Rattle.std.proofs.lemmas.Bool.{false≢true}
 use Rattle.ygm_io.specs.Content.{ExposedBytes}
 use Rattle.world_core.specs.Post.{PostState}
@@ -18,7 +18,7 @@ use Rattle.term_barrier.proofs.Carried.Polled.{carries_left, carries_waited}
 use Rattle.ygm_run.specs.declared.job.Step.{Step}
 use Rattle.ygm_run.specs.declared.job.Step.TheVariants.{Going, Finished}
 use Rattle.ygm_run.specs.Lines.{text_of}
-use Rattle.ygm_run.specs.RankJobs.{HasPolledOnce, InJob, JobState, JobTurned, KeepsJob, faults_in, left_in}
+use Rattle.ygm_run.specs.RankJobs.{HasGoneOn, HasPolledOnce, InJob, JobState, JobTurned, KeepsJob, faults_in, left_in}
 use Rattle.ygm_run.specs.ReadLines.{IsFullFile}
 use Rattle.ygm_run.specs.TallyRun.{tally_letters}
 use Rattle.ygm_run.proofs.Inputs.IsRead.{stopped_at_piece}
@@ -89,9 +89,10 @@ polled_once left faults content job old new one me before after source (Ok Finis
 polled_once left faults content job old new one me before after source (Err fault) inside kept step full was = never_full fault (IsFullFile content) full
 
 -- after a turn outside, the job goes on, or it was stopped
-pub gone_on : {S : Type 0} (left : S → ExposedBytes) (faults : S → ℕ) (content : ExposedBytes) (job : JobState) (me : Rank Counts) (barrier : BarrierState)
-    (post : PostState) (source : Option S) (result : Result Step CommFault) (Kept : Type 0) → OnOk result Kept →
-    IfOk result (λ step. (step ≡ Going) × (me.stopped ≡ false)) → IfErr result (λ fault. IfCountFull fault (λ _. ⊥)) →
-    (me.stopped ≡ false → Kept → InJob left faults content job me barrier post source) → JobTurned left faults content result job me barrier post source
-gone_on left faults content job me barrier post source (Ok step) Kept kept gone full then = rw gone.0 (then gone.1 kept)
-gone_on left faults content job me barrier post source (Err fault) Kept kept gone full then = never_full fault (IsFullFile content) full
+pub gone_on : {S : Type 0} (left : S → ExposedBytes) (faults : S → ℕ) (content : ExposedBytes) (job : JobState) (me : Rank Counts) (old new : BarrierState)
+    (post : PostState) (source : Option S) (ended : Bool) (result : Result Step CommFault) (Kept : BarrierState → Type 0) → OnOk result (Kept new) →
+    IfOk result (λ step. HasGoneOn ended step old new me) → IfErr result (λ fault. IfCountFull fault (λ _. ⊥)) →
+    (me.stopped ≡ false → Kept (record old { inside = ended }) → InJob left faults content job me (record old { inside = ended }) post source) →
+    JobTurned left faults content result job me new post source
+gone_on left faults content job me old new post source ended (Ok step) Kept kept gone full then = rw (gone.0, gone.1) (then gone.2 (subst Kept gone.1 kept))
+gone_on left faults content job me old new post source ended (Err fault) Kept kept gone full then = never_full fault (IsFullFile content) full

@@ -1,4 +1,4 @@
-use Rattle.std.proofs.Common.{[], Some, None, inl, inr, sym, ap, ◌∙◌}
+use Rattle.std.proofs.Common.{true, [], Some, None, inl, inr, sym, ap, ◌∙◌}
 use Rattle.std.proofs.lemmas.Result.{err_from_is_err_and}
 use Rattle.ygm_run.specs.RankJobs.{JobState, KeepsJob}
 use Rattle.ygm_run.proofs.Inputs.IsRest.{rest_none}
@@ -38,15 +38,14 @@ returns-in_default-clause-turned g c =
     let faults = g.S.Source.faults in
     let job = c.args.self.now in
     let me = c.go_on.new.comm in
-    let barrier = c.go_on.new.barrier in
+    let start = c.args.barrier.now in
     let before = g.P.Post.state c.args.post.now in
     let after = g.P.Post.state c.go_on.new.post in
+    let gone = c.go_on.ensures in
     let outside = sym c.inside.ensures ∙ c.if-inside.false in
     rw c.in_default.is (λ content was.
-    gone_on left faults content job me barrier after None c.go_on.result (KeepsJob content job me barrier after (Some []))
-    (c.go_on.ensures.kept content job (Some []) was.keeps) c.go_on.ensures.step c.go_on.ensures.never_full
-    (λ going keeps. rw c.go_on.ensures.entered
-    (in_job_without left faults content job c.args.comm.now me c.args.barrier.now before after outside was going (rw c.go_on.ensures.entered at keeps))))
+    gone_on left faults content job me start c.go_on.new.barrier after None true c.go_on.result (λ barrier. KeepsJob content job me barrier after (Some []))
+    (gone.kept content job (Some []) was.keeps) gone.step gone.never_full (in_job_without left faults content job c.args.comm.now me start before after outside was))
 
 -- a turn of the reader
 
@@ -69,7 +68,6 @@ returns-clause-turned g c =
     let mid = c.read_on.new.comm in
     let me = c.go_on-2.new.comm in
     let start = c.args.barrier.now in
-    let barrier = c.go_on-2.new.barrier in
     let before = g.P.Post.state c.args.post.now in
     let after = g.P.Post.state c.go_on-2.new.post in
     let source = c.in-Some.source.now in
@@ -77,12 +75,12 @@ returns-clause-turned g c =
     let outside = sym c.inside.ensures ∙ c.if-inside.false in
     let on = c.in_ok-read_on.ensures.read in
     let agrees = c.in_ok-read_on.ensures.agrees in
+    let gone = c.go_on-2.ensures in
+    let is_done = c.done.ensures ∙ ap (λ (job : JobState). job.reader.done) c.self.view_is in
     rw c.in-Some.is (λ content was.
-    gone_on left faults content new me barrier after (Some now) c.go_on-2.result (KeepsJob content new me barrier after (left now))
-    (c.go_on-2.ensures.kept content new (left now) (keeps_read left faults content old new one mid start before source now outside on agrees was)) c.go_on-2.ensures.step c.go_on-2.ensures.never_full
-    (λ going keeps. rw c.go_on-2.ensures.entered
-    (in_job_read left faults content old new one mid start before source now outside on agrees was me after c.done.result
-    (c.done.ensures ∙ ap (λ (job : JobState). job.reader.done) c.self.view_is) going (rw c.go_on-2.ensures.entered at keeps))))
+    gone_on left faults content new me start c.go_on-2.new.barrier after (Some now) c.done.result c.go_on-2.result (λ barrier. KeepsJob content new me barrier after (left now))
+    (gone.kept content new (left now) (keeps_read left faults content old new one mid start before source now outside on agrees was)) gone.step gone.never_full
+    (in_job_read left faults content old new one mid start before source now outside on agrees was me after c.done.result is_done))
 
 pub returns-clause-rest : goal.returns-clause-rest
 returns-clause-rest g c = rw c.in-Some.is c.read_on.ensures.rest
