@@ -20,7 +20,7 @@ outcome-requires g c =
     let new = c.requires.new in
     let start = c.args.sources.now in
     let are = c.run_all.ensures.runs new.0 start (fresh_are_runs g.S.Source.left g.S.Source.faults new.0 start c.args.self.runs.items c.args.self.links new.1 c.requires.fresh) in
-    record { few = few_ranks g.S.Source.left g.S.Source.faults new.0 start c.run_all.new.self.runs.items c.run_all.new.self.links c.run_all.new.sources are c.holds.ensures.sound.sound }
+    record { few = few_ranks g.S.Source.left g.S.Source.faults new.0 start c.run_all.new.self.runs.items c.run_all.new.self.links c.run_all.new.sources are c.world.ensures.sound.sound }
 
 pub returns-clause-ran : goal.returns-clause-ran
 returns-clause-ran g c =
@@ -37,7 +37,7 @@ returns-clause-ran g c =
     MatchResult-weaker c.outcome.result c.outcome.ensures.ok
     (λ shards well.
     subst (λ ranks. HasRun left faults ranks start now.sources shards.items) same
-    (has_run left faults new.0 start runs now.self.links now.sources are c.run_all.ensures.ended few c.holds.ensures.sound.sound shards.items well))
+    (has_run left faults new.0 start runs now.self.links now.sources are c.run_all.ensures.ended few c.world.ensures.sound.sound shards.items well))
     (λ fault any. tt)
 
 pub returns-clause-stopped : goal.returns-clause-stopped
