@@ -3,3 +3,4 @@ pub mod Ended
 pub mod First
 pub mod Others
 pub mod Stopped
+pub mod Turned

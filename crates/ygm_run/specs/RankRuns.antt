@@ -13,6 +13,8 @@ use Rattle.comm_rank.specs.Fault.{IfCountFull}
 use Rattle.comm_rank.specs.Rank.{Rank, fresh_rank}
 use Rattle.term_barrier.specs.Barriers.{BarrierState, fresh_barrier}
 use Rattle.counting_set.specs.Counting.{Counts, counting_apply}
+use Rattle.ygm_run.specs.declared.job.Step.{Step}
+use Rattle.ygm_run.specs.declared.job.Step.TheVariants.{Finished, Going}
 use Rattle.ygm_run.specs.declared.ranks.RankRun.{RankRun}
 use Rattle.ygm_run.specs.declared.run_job.JobFault.{JobFault}
 use Rattle.ygm_run.specs.declared.run_job.JobFault.TheVariants.{Bad, CountFull, NoMemory, Read}
@@ -20,6 +22,12 @@ use Rattle.ygm_run.specs.declared.status.InputFault.{InputFault}
 use Rattle.ygm_run.specs.JobEnds.{fault_of}
 use Rattle.ygm_run.specs.RankJobs.{HasFinished, InJob, JobState, fresh_job, left_in}
 use Rattle.ygm_run.specs.ReadLines.{IsFullFile}
+
+-- how a job has ended, if it has, after a turn that came to this
+abbrev pub ended_by : Option (Result (Unit {0}) CommFault) → Result Step CommFault → Option (Result (Unit {0}) CommFault)
+ended_by was (Ok Going) = was
+ended_by was (Ok Finished) = Some (Ok tt)
+ended_by was (Err fault) = Some (Err fault)
 
 -- what holds of a rank's job, by how it has ended, if it has
 abbrev pub IsByEnd : {S : Type 0} → (S → ExposedBytes) → (S → ℕ) → ExposedBytes → Option (Result (Unit {0}) CommFault)

@@ -1,5 +1,5 @@
 //! The jobs of all ranks on one thread, over links between them.
-ghost use Rattle.std.specs.Prelude.{◌≡◌, ◌<◌, ◌≤◌, ℕ, List, Some, None, true, length, map, slice_get, IfOk, IfErr, IfNone, IfSome, IsSome};
+ghost use Rattle.std.specs.Prelude.{◌≡◌, ◌<◌, ◌≤◌, ℕ, List, Some, None, true, length, map, slice_get, IfOk, IfErr, OnOk, IfNone, IfSome, IsSome, IsTrue};
 ghost use Rattle.std.specs.Option.{option_copied_mut};
 ghost use Rattle.ygm_io.specs.Content.{ExposedBytes};
 ghost use Rattle.ygm_route.specs.declared.scheme.Scheme.TheVariants.{Direct};
@@ -10,7 +10,7 @@ ghost use Rattle.ygm_run.specs.BadLines.{tally_wrong};
 ghost use Rattle.ygm_run.specs.Inputs.{AreRests, IsRest};
 ghost use Rattle.ygm_run.specs.JobEnds.{HasRun, JobStops};
 ghost use Rattle.ygm_run.specs.RankJobs.{InJob, left_in, source_after};
-ghost use Rattle.ygm_run.specs.RankRuns.{AllWell, AreFresh, AreRuns, EndsBy, IsByEnd, IsFreshRun, IsLowestInput, IsStop, NoFaults, NoneStopped};
+ghost use Rattle.ygm_run.specs.RankRuns.{AllWell, AreFresh, AreRuns, EndsBy, IsByEnd, IsFreshRun, IsLowestInput, IsStop, NoFaults, NoneStopped, ended_by};
 
 use crate::job::{Job, Step};
 use crate::run_job::JobFault;
@@ -21,7 +21,7 @@ use std::alloc::{AllocError, Global};
 use std::sync::Wait;
 use term_barrier::Barrier;
 use world_core::{Limits, PlainLinks, Post};
-use ygm_io::Source;
+use ygm_io::{CalmSource, Source};
 use ygm_route::{Layout, Scheme};
 
 /// How many batches a link holds.
@@ -38,17 +38,19 @@ pub(crate) struct RankRun {
 }
 
 impl RankRun {
-    fn new(
-        alloc: Global,
-        layout: Layout,
-        scheme: Scheme,
-        here: u32,
-    ) -> Result<RankRun, AllocError>
+    fn new(alloc: Global, layout: Layout, scheme: Scheme, here: u32) -> Result<RankRun, AllocError>
         requires below { here < layout.ranks }
         requires direct { scheme ≡ Direct }
         ensures fresh { IfOk result (IsFreshRun layout here) }
     {
-        let Ok(comm) = Comm::new(alloc, layout, scheme, here, Limits::FULL, Counting::new(alloc)?) else {
+        let Ok(comm) = Comm::new(
+            alloc,
+            layout,
+            scheme,
+            here,
+            Limits::FULL,
+            Counting::new(alloc)?,
+        ) else {
             return Err(AllocError);
         };
         Ok(RankRun {
@@ -59,7 +61,7 @@ impl RankRun {
         })
     }
 
-    // A turn of the job. After a fault the rank is halted, so that the others stop too.
+    // A turn of the job, over the rank's source, if it has one.
     fn turn<S: Source, P: Post>(&mut self, post: &mut P, src: Option<&mut S>)
         requires going { self.old.ended ≡ None }
         requires in_job { (content : ExposedBytes) × InJob S.left S.faults content self.old.job self.old.comm self.old.barrier (P.state post.old) (option_copied_mut src) }
@@ -69,7 +71,33 @@ impl RankRun {
         ensures post { SamePost self.old.comm.here (P.state post.old) (P.state post.new) }
         ensures rest { IsRest (left_in S.left (option_copied_mut src.entry)) (left_in S.left (source_after src.exit)) }
     {
-        match self.job.turn(&mut self.comm, &mut self.barrier, post, src) {
+        match src {
+            Some(source) => {
+                let turned = self
+                    .job
+                    .turn(&mut self.comm, &mut self.barrier, post, Some(source));
+                self.take_in(post, turned);
+            }
+            // Where there is no source, its type doesn't matter.
+            None => {
+                let nothing = None::<&mut CalmSource>;
+                let turned = self
+                    .job
+                    .turn(&mut self.comm, &mut self.barrier, post, nothing);
+                self.take_in(post, turned);
+            }
+        }
+    }
+
+    // Takes in what a turn of the job came to. After a fault the rank is halted, so that the others stop too.
+    fn take_in<P: Post>(&mut self, post: &mut P, turned: Result<Step, CommFault>)
+        requires serves { IsTrue ((P.state post.old).serves self.old.comm.here) }
+        ensures ended { self.new ≡ record self.old { comm = self.new.comm; ended = ended_by self.old.ended turned } }
+        ensures unchanged { OnOk turned ((self.new.comm ≡ self.old.comm) × (P.state post.new ≡ P.state post.old)) }
+        ensures same_rank { IsSameRank self.old.comm self.new.comm }
+        ensures post { SamePost self.old.comm.here (P.state post.old) (P.state post.new) }
+    {
+        match turned {
             Ok(Step::Going) => {}
             Ok(Step::Finished) => self.ended = Some(Ok(())),
             Err(fault) => {
@@ -159,8 +187,13 @@ impl Ranks {
         ensures same_sources { length sources.new ≡ length sources.old }
     {
         for rank in 0..self.runs.len() {
-            if self.runs[rank].ended.is_none() {
-                self.runs[rank].turn(&mut self.links, sources.get_mut(rank));
+            if self.runs[rank].ended.is_some() {
+                continue;
+            }
+            if rank < sources.len() {
+                self.runs[rank].turn(&mut self.links, Some(&mut sources[rank]));
+            } else {
+                self.runs[rank].turn(&mut self.links, None::<&mut CalmSource>);
             }
         }
     }

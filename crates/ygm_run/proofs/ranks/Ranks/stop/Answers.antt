@@ -1,4 +1,4 @@
-use Rattle.std.proofs.Common.{◌≡◌, ◌∙◌, List, None, Some, Err, IfSome, length, refl, sym, ap, subst, arith, slice_get}
+use Rattle.std.proofs.Common.{◌≡◌, ◌∙◌, List, Some, Err, IfSome, length, refl, sym, ap, subst, arith, slice_get}
 use Rattle.std.specs.Result.{IsOk}
 use Rattle.std.proofs.lemmas.Option.{slice_get_read}
 use Rattle.comm_rank.specs.declared.fault.CommFault.TheVariants.{CountFull}
@@ -20,8 +20,8 @@ returns-in-Some-Err-CountFull-clause-stopped c =
       run,
       subst (λ (xs : List RankRun). slice_get xs k ≡ Some run) c.deref-run-items.ensures.value (slice_get_read runs (length runs) k run refl c.loop-rank-test.true c.run-item.is),
       (let stopped : w.field-0 ≡ Err w.field-0-0 = rw w.is at w.field-0-is in
-      let full : w.field-0-0 ≡ CountFull w.at = rw (w.is, stopped) at w.field-0-0-is in
-      w.is ∙ ap Some (stopped ∙ ap Err full)),
+          let full : w.field-0-0 ≡ CountFull w.at = rw (w.is, stopped) at w.field-0-0-is in
+          w.is ∙ ap Some (stopped ∙ ap Err full)),
     )
 
 pub loop-rank-preserved : goal.loop-rank-preserved
