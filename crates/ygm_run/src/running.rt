@@ -16,7 +16,7 @@ ghost use Rattle.ygm_run.specs.Words.{named, order_of, texts_of};
 use crate::note::{OUT_OF_MEMORY, fixed_note, note_of};
 use crate::status::{Ended, InputFault, Status};
 use crate::run_job::{JobFault, JobKind, Ran, Settings, run_job};
-use crate::tally_text::text_of;
+use crate::tally_text::text_of_shards;
 use crate::words::read_words;
 use counting_set::Counting;
 use std::alloc::Global;
@@ -91,7 +91,7 @@ fn finish<O: Sink>(alloc: Global, shards: &[Counting], out: &mut O) -> Status
         → IsWritten result text (O.holds out.old) (O.holds out.new) }
     ensures nothing_written { may_write result ≡ false → out.new ≡ out.old }
 {
-    match text_of(alloc, shards) {
+    match text_of_shards(alloc, shards) {
         Ok(text) => write_text(&text, out),
         Err(_) => Status::NoMemory,
     }

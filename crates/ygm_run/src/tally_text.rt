@@ -46,7 +46,7 @@ pub fn table_of(alloc: Global, mut entries: Vec<(&[u8], u64)>) -> Result<Vec<u8>
 }
 
 /// The text of what the ranks keep: a row for each entry of each shard, in byte order of the items.
-pub fn text_of(alloc: Global, shards: &[Counting]) -> Result<Vec<u8>, AllocError>
+pub fn text_of_shards(alloc: Global, shards: &[Counting]) -> Result<Vec<u8>, AllocError>
     ensures table { IfOk result (λ text. IsTableOf (flat_map (λ shard. shard) shards.now) text.items) }
 {
     let mut entries = Vec::new(alloc);

@@ -6,7 +6,7 @@ use crate::run;
 use crate::run_job::{JobFault, JobKind, Ran, Settings, run_job};
 use crate::status::{Ended, LineWhy, Status};
 use crate::tally_text::{
-    each_line_has_its_row, one_table, order_is_free, text_of as text_of_shards,
+    each_line_has_its_row, one_table, order_is_free, text_of_shards,
 };
 use crate::verdict_laws::the_verdict_is_the_lowest_bad_line_or_the_text;
 use crate::words::UsageKind;

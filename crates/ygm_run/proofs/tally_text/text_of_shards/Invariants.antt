@@ -1,6 +1,6 @@
 use Rattle.std.proofs.Common.{◌≡◌, flat_map, take}
 use Rattle.ygm_run.specs.TallyText.{pairs_of}
-use Rattle.ygm_run.proofs.tally_text.text_of.Given as goal
+use Rattle.ygm_run.proofs.tally_text.text_of_shards.Given as goal
 
 -- what the first shards have is there
 abbrev pub invariant-loop-shard : goal.invariant-loop-shard
