@@ -14,8 +14,8 @@ ghost use Rattle.ygm_run.specs.Verdict.{tally_verdict};
 ghost use Rattle.ygm_run.specs.Words.{named, order_of, texts_of};
 
 use crate::note::{OUT_OF_MEMORY, fixed_note, note_of};
-use crate::status::{Ended, InputFault, Status};
 use crate::run_job::{JobFault, JobKind, Ran, Settings, run_job};
+use crate::status::{Ended, InputFault, Status};
 use crate::tally_text::text_of_shards;
 use crate::words::read_words;
 use counting_set::Counting;

@@ -5,9 +5,7 @@ use crate::line_laws::{lines_end_at_lf, one_cr_is_dropped, the_first_bad_line};
 use crate::run;
 use crate::run_job::{JobFault, JobKind, Ran, Settings, run_job};
 use crate::status::{Ended, LineWhy, Status};
-use crate::tally_text::{
-    each_line_has_its_row, one_table, order_is_free, text_of_shards,
-};
+use crate::tally_text::{each_line_has_its_row, one_table, order_is_free, text_of_shards};
 use crate::verdict_laws::the_verdict_is_the_lowest_bad_line_or_the_text;
 use crate::words::UsageKind;
 use crate::words_laws::{the_refusal_is_the_first_that_holds, words_that_are_accepted};
@@ -69,7 +67,11 @@ fn too_long(rank: u32, line: u64) -> Status {
 }
 
 // The text of a run over files that hold these bytes.
-fn text_of(rt: &(impl Abort + Wait + AllocGlobal), contents: &[&[u8]], text: &[u8]) -> Result<(), Fail> {
+fn text_of(
+    rt: &(impl Abort + Wait + AllocGlobal),
+    contents: &[&[u8]],
+    text: &[u8],
+) -> Result<(), Fail> {
     let names = ["f0", "f1", "f2"];
     let mut files = MemFiles::new(rt.alloc());
     let mut texts = Vec::new(rt.alloc());
@@ -151,7 +153,10 @@ fn a_rank_without_a_file_reads_nothing(rt: HostRuntime) -> Result<(), Fail> {
     assert_eq!(rt; sources[0].left(), b"".as_slice());
     let shards = outcome.expect(&rt, "it has shards");
     assert_eq!(rt; shards.len(), 3);
-    assert_eq!(rt; text_of_shards(alloc, &shards)?.as_slice(), b"1\ta\n2\tb\n".as_slice());
+    assert_eq!(rt;
+        text_of_shards(alloc, &shards)?.as_slice(),
+        b"1\ta\n2\tb\n".as_slice()
+    );
     Ok(())
 }
 
@@ -270,7 +275,11 @@ fn no_open_is_tried_after_the_first_that_fails(rt: HostRuntime) -> Result<(), Fa
 }
 
 // A run over two files of which these reads of the second fail ends so. Its third open is to fail, and none does.
-fn opened_once(rt: &(impl Abort + Wait + AllocGlobal), fails: &[u64], status: Status) -> Result<(), Fail> {
+fn opened_once(
+    rt: &(impl Abort + Wait + AllocGlobal),
+    fails: &[u64],
+    status: Status,
+) -> Result<(), Fail> {
     let mut files = two_files(rt.alloc(), fails)?;
     files.fail_open(2)?;
     let outcome = run_over(rt, &mut files, &["tally", "f0", "f1"])?;

@@ -43,10 +43,10 @@ module _ {S : Type 0} (left : S → ExposedBytes) (faults : S → ℕ) (contents
       let source = source_at tally_wrong left faults contents files sources exposed all rank file at in
       let here = read rank (Some file) source.0 (file_at contents files rank file exposed at) source.1 in
       of source.0 here (cases_lt 0 (faults source.0)) where
-    of : (source : S) → IsRead tally_wrong left faults (Some file) source None → (0 < faults source) ⊎ (faults source ≤ 0) → length (raw_lines file) ≤ most_letters
-    of source here (inl some) = absurd (let e = here.read.1 some in cc)
-    of source here (inr none) =
-        subst (λ lines. length lines ≤ most_letters) (good_of_short (raw_lines file) (short_at rank file at)) (here.few (omega (arith, none)))
+        of : (source : S) → IsRead tally_wrong left faults (Some file) source None → (0 < faults source) ⊎ (faults source ≤ 0) → length (raw_lines file) ≤ most_letters
+        of source here (inl some) = absurd (let e = here.read.1 some in cc)
+        of source here (inr none) =
+            subst (λ lines. length lines ≤ most_letters) (good_of_short (raw_lines file) (short_at rank file at)) (here.few (omega (arith, none)))
 
   pub all_short : All (λ lines. All (λ line. length line ≤ max_line) lines) (lines_of_each files)
   all_short =

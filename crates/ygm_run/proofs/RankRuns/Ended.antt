@@ -49,6 +49,7 @@ choose {X} ranks P none each = ((λ rank. pick rank (cases_lt rank ranks)), (λ 
   pick : (rank : ℕ) → (rank < ranks) ⊎ (ranks ≤ rank) → X
   pick rank (inl within) = (each rank within).0
   pick rank (inr past) = none
+
   picked : (rank : ℕ) → rank < ranks → (test : (rank < ranks) ⊎ (ranks ≤ rank)) → P rank (pick rank test)
   picked rank within (inl again) = (each rank again).1
   picked rank within (inr past) = absurd (omega (arith, within, past))
@@ -157,12 +158,11 @@ module _ {S : Type 0} (left : S → ExposedBytes) (faults : S → ℕ) (layout :
           let keeps = (done_at rank within).keeps in
           let me : Rank Counts = (run_at rank).comm in
           let with : (ℕ → ℕ → List Letter) → Type 0 = λ own. Carries counting_apply (λ _. []) own keeps.rounds (run_at rank).barrier me (state_of links) in
-          let size : me.layout.ranks ≡ ranks = ap (λ (l : Shape). l.ranks) (layout_is rank within) in
-          (
+          let size : me.layout.ranks ≡ ranks = ap (λ (l : Shape). l.ranks) (layout_is rank within) in (
             keeps.rounds,
             subst (λ (lines : List (List ℕ)). with (tally_letters ranks rank lines)) (read_all rank within)
-            (subst (λ here. with (tally_letters ranks here (map text_of keeps.raws))) (here_is rank within)
-            (subst (λ n. with (tally_letters n me.here (map text_of keeps.raws))) size keeps.carries)),
+                (subst (λ here. with (tally_letters ranks here (map text_of keeps.raws))) (here_is rank within)
+                (subst (λ n. with (tally_letters n me.here (map text_of keeps.raws))) size keeps.carries)),
           )
 
       chosen : (rounds : ℕ → ℕ → ℕ) × ((rank : ℕ) → rank < ranks → Carried rank (rounds rank))

@@ -105,6 +105,6 @@ module _ {S : Type 0} (left : S → ExposedBytes) (faults : S → ℕ) (layout :
   stops few all fault (inr (none_stopped, found)) =
       subst (JobStops tally_wrong left faults (length runs) (map left start) sources) (sym found.2)
       (of found.0 found.1 (lowest_fault none_stopped few all found.0 found.1 found.3)) where
-    of : (rank : ℕ) (met : InputFault) → IsLowestFault tally_wrong left faults (map left start) sources rank met → JobStops tally_wrong left faults (length runs) (map left start) sources (fault_of rank met)
-    of rank Read lowest = lowest
-    of rank (Bad line why) lowest = lowest
+        of : (rank : ℕ) (met : InputFault) → IsLowestFault tally_wrong left faults (map left start) sources rank met → JobStops tally_wrong left faults (length runs) (map left start) sources (fault_of rank met)
+        of rank Read lowest = lowest
+        of rank (Bad line why) lowest = lowest
