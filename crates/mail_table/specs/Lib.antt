@@ -1,0 +1,9 @@
+pub mod Words
+pub mod Views
+pub mod Table
+pub mod Calls
+pub mod Serving
+pub mod Links
+pub mod Rule
+pub mod Steps
+pub mod Seats
