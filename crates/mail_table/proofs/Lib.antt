@@ -1,0 +1,4 @@
+pub mod Found
+pub mod OneLink
+pub mod Rule
+pub mod Words

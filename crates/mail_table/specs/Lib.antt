@@ -3,7 +3,7 @@ pub mod Views
 pub mod Table
 pub mod Calls
 pub mod Serving
-pub mod Links
+pub mod OneLink
 pub mod Rule
 pub mod Steps
 pub mod Seats

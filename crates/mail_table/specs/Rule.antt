@@ -11,7 +11,7 @@ use Rattle.world_core.specs.World.{Logs}
 use Rattle.mail_table.specs.declared.settings.Settings.{Settings}
 use Rattle.mail_table.specs.declared.views.RankView.{RankView}
 use Rattle.mail_table.specs.declared.views.View.{View}
-use Rattle.mail_table.specs.Links.{Homes, LinkAgrees, one_if}
+use Rattle.mail_table.specs.OneLink.{Homes, LinkAgrees, one_if}
 use Rattle.mail_table.specs.Table.{IsSettings}
 use Rattle.mail_table.specs.Words.{base, head_at, slots_of, stop_word, tail_at, words_of}
 

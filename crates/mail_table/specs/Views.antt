@@ -1,5 +1,5 @@
 -- What is known of ranks: at the start, after a load, and as views are cut and joined.
-use Rattle.std.specs.Prelude.{ℕ, ◌+◌, false, None, List, [], ◌∷◌, replicate, slice_index_or, slice_set}
+use Rattle.std.specs.Prelude.{ℕ, ◌+◌, false, None, List, [], ◌∷◌, ◌++◌, replicate, slice_index_or, slice_set}
 use Rattle.ygm_route.specs.declared.scheme.Scheme.TheVariants.{Direct}
 use Rattle.mail_table.specs.declared.settings.Settings.{Settings}
 use Rattle.mail_table.specs.declared.views.Loads.{Loads}

@@ -10,7 +10,7 @@ ghost use Rattle.mail_table.specs.Views.{fresh_view, knowing, loaded, mine};
 ghost use Rattle.mail_table.specs.Calls.{is_raised};
 ghost use Rattle.mail_table.specs.Words.{base, head_at, slot_at, tail_at, words_of};
 
-use crate::rule::{LoadHead, LoadStop, LoadTail, Ruled, StoreHead, StoreStop, StoreTail};
+use crate::plays::{LoadHead, LoadStop, LoadTail, Ruled, StoreHead, StoreStop, StoreTail};
 use crate::settings::Settings;
 use crate::views::View;
 use atomic_table::{Seat, Table};

@@ -9,7 +9,7 @@ ghost use Rattle.mail_table.specs.Views.{fresh_view, mine};
 
 use crate::links::{Links, Mail};
 use crate::pass::Pass;
-use crate::rule::{Deal, Gather, Learn};
+use crate::plays::{Deal, Gather, Learn};
 use std::alloc::{AllocError, Global};
 
 /// The pass of the next rank, from the seat that has it and those after it.

@@ -1,5 +1,5 @@
 //! A post for one rank, over a table.
-ghost use Rattle.std.specs.Prelude.{◌≡◌, ◌<◌, true, false, None, ⊥, IsTrue, IsNone, IfSome, OnOk, IfErr};
+ghost use Rattle.std.specs.Prelude.{◌≡◌, ◌<◌, true, false, None, IsTrue, IsNone, IfSome, OnOk, IfErr};
 ghost use Rattle.world_core.specs.Post.{IfFull, IfNoMemory, LookKeeps, PutKeeps, RaiseKeeps, StopRaised, TakeKeeps, batch_back, local_at};
 ghost use Rattle.world_core.specs.Rules.{first_broken};
 ghost use Rattle.world_core.specs.Rules.Deed.{Puts};

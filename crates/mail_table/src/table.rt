@@ -1,5 +1,5 @@
 //! The table, its passes, and what remains of them.
-ghost use Rattle.std.specs.Prelude.{◌≡◌, ◌<◌, ◌≤◌, ⊥, true, None, OnOk, IfErr, IfOk, IfSome, IsNone};
+ghost use Rattle.std.specs.Prelude.{◌≡◌, ◌<◌, ◌≤◌, true, None, OnOk, IfErr, IfOk, IfSome, IsNone};
 ghost use Rattle.world_core.specs.Modest.{IsWorld};
 ghost use Rattle.world_core.specs.Post.{IfFull, IfNoMemory, batch_back};
 ghost use Rattle.world_core.specs.Rules.{first_broken};

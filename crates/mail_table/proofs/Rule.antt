@@ -1,0 +1,4 @@
+pub mod OneRank
+pub mod OtherLinks
+pub mod Stops
+pub mod Worlds
