@@ -1,6 +1,6 @@
 -- The rule after a step of one rank.
-use Rattle.std.proofs.Common.{◌≡◌, ◌≢◌, ◌⊎◌, ℕ, zero, suc, ◌+◌, ◌<◌, ◌≤◌, List, [], ◌∷◌, length, set, refl, sym, ap, ◌∙◌, subst, ⊎_elim, arith}
-use Rattle.std.proofs.lemmas.List.{length-map}
+use Rattle.std.proofs.Common.{◌≡◌, ◌≢◌, ◌⊎◌, ℕ, zero, suc, ◌+◌, ◌<◌, ◌≤◌, List, [], ◌∷◌, length, set, refl, sym, ap, ◌∙◌, subst, ⊎_elim, arith, length-set}
+use Rattle.std.proofs.lemmas.List.{get_or-set_other, length-map}
 use mathlib.Core.Option.{some, some-ne-none}
 use lib.ListN.{get_elem?}
 use Rattle.atomic_table.specs.Table.{State}
@@ -15,7 +15,8 @@ use Rattle.mail_table.specs.Rule.{HasSettings, Knows, LinksAt, Mails, Rule, some
 use Rattle.mail_table.specs.Seats.{IsOf}
 use Rattle.mail_table.specs.Views.{knowing, mine}
 use Rattle.mail_table.specs.Words.{stop_word}
-use Rattle.mail_table.proofs.Found.{found_below}
+use Rattle.mail_table.proofs.Found.{found_below, set_same}
+use Rattle.mail_table.proofs.Rule.Stops.{same_raised}
 
 -- the other seats know what they knew
 knows_after : (ranks : List RankView) (owner : ℕ → ℕ) (views : List View) (seat rank : ℕ) (view : View) (new : RankView) → view.first ≡ rank → rank < length ranks → owner rank ≡ seat →
@@ -86,3 +87,24 @@ module _ (settings : Settings) where
         stop = stop;
         world = world;
       }
+
+  -- after a load, which leaves the words unchanged
+  pub after_load : (mails : Mails) (rule : Rule settings mails) (seat : ℕ) (view : View) (new : RankView) (homes : Homes (List Letter)) (word : ℕ) →
+      get_elem? mails.views seat ≡ some view → view.ranks ≡ mine view ∷ [] → length homes ≡ length mails.homes → new.raised ≡ (mine view).raised →
+      LinksAt settings homes mails.words (set rule.ranks view.first new) → IsWorld (world_in settings (set rule.ranks view.first new)) →
+      Rule settings record { words = set mails.words word (word_at mails.words word); homes = homes; views = set mails.views seat (knowing view new) }
+  after_load mails rule seat view new homes word at one wide raised links world =
+      let here = is_here mails rule seat view.first view at refl one in
+      subst (λ (words : List ℕ). Rule settings record { words = words; homes = homes; views = set mails.views seat (knowing view new) }) (sym (set_same mails.words word))
+          (rebuilt mails rule seat view.first view new mails.words homes at refl one wide refl links
+              (rule.stop ∙ ap one_if (sym (same_raised rule.ranks view.first (mine view) new here.there raised))) world)
+
+  -- after a store to another word than that of the stop
+  pub after_store : (mails : Mails) (rule : Rule settings mails) (seat : ℕ) (view : View) (new : RankView) (homes : Homes (List Letter)) (word value : ℕ) → word ≢ stop_word →
+      get_elem? mails.views seat ≡ some view → view.ranks ≡ mine view ∷ [] → length homes ≡ length mails.homes → new.raised ≡ (mine view).raised →
+      LinksAt settings homes (set mails.words word value) (set rule.ranks view.first new) → IsWorld (world_in settings (set rule.ranks view.first new)) →
+      Rule settings record { words = set mails.words word value; homes = homes; views = set mails.views seat (knowing view new) }
+  after_store mails rule seat view new homes word value other at one wide raised links world =
+      let here = is_here mails rule seat view.first view at refl one in
+      rebuilt mails rule seat view.first view new (set mails.words word value) homes at refl one wide (length-set mails.words word value) links
+          (get_or-set_other mails.words word stop_word value 0 (λ e. other (sym e)) ∙ rule.stop ∙ ap one_if (sym (same_raised rule.ranks view.first (mine view) new here.there raised))) world

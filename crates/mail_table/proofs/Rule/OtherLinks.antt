@@ -1,9 +1,9 @@
 -- What a step on one link does to the links of the rule.
 use Rattle.std.proofs.Common.{◌≡◌, ◌≢◌, ◌⊎◌, ℕ, ◌+◌, ◌%◌, ◌<◌, Bool, List, length, get_or, set, refl, sym, ap, ◌∙◌, subst, ⊎_elim, length-set, mod-lt, arith}
-use mathlib.Core.Option.{some}
+use mathlib.Core.Option.{some, some-injective}
 use native.Mathlib.Decide.{ℕ_discrete}
 use lib.ListN.{get_elem?}
-use Rattle.atomic_table.proofs.Lists.{at_set}
+use Rattle.atomic_table.proofs.Lists.{at_set, set_here}
 use Rattle.msg_codec.specs.declared.letter.Letter.{Letter}
 use Rattle.world_core.specs.Log.{batches_put, batches_taken}
 use Rattle.mail_table.specs.declared.settings.Settings.{Settings}
@@ -93,3 +93,37 @@ module _ (settings : Settings) (ranks : List RankView) (all : length ranks ≡ s
             (its_own sender receiver (ap (get_elem? (set ranks rank new)) (sym e) ∙ at_from) (ap (get_elem? (set ranks rank new)) (sym f) ∙ at_to))
         go (no ne) _ = other_link links from to sender receiver at_from at_to (λ e f. ne e)
         go (yes e) (no ne) = other_link links from to sender receiver at_from at_to (λ e' f. ne f)
+
+-- ---- the link of the step itself, where the rank is its sender, or its receiver
+
+module _ (settings : Settings) (homes : Homes (List Letter)) (words : List ℕ) (ranks : List RankView) (rank : ℕ) (old new : RankView) (at : get_elem? ranks rank ≡ some old) where
+  new_here : (now : RankView) → get_elem? (set ranks rank new) rank ≡ some now → new ≡ now
+  new_here now e = some-injective new now (sym (set_here ranks rank new (found_below ranks rank old at)) ∙ e)
+
+  pub link_to : (to : ℕ) → SameTakes old new rank → ((receiver : RankView) → get_elem? ranks to ≡ some receiver → LinkAt settings homes words rank to new receiver) →
+      (sender receiver : RankView) → get_elem? (set ranks rank new) rank ≡ some sender → get_elem? (set ranks rank new) to ≡ some receiver → LinkAt settings homes words rank to sender receiver
+  link_to to takes now sender receiver e f = subst (λ (y : RankView). LinkAt settings homes words rank to y receiver) (new_here sender e) (⊎_elim
+      (λ (t : (to ≡ rank) × (new ≡ receiver)). subst (λ (y : RankView). LinkAt settings homes words rank to new y) t.1
+          (at_ends settings homes words rank to new old new new (same_puts new to) takes (now old (ap (get_elem? ranks) t.0 ∙ at))))
+      (λ (t : (to ≢ rank) × (get_elem? ranks to ≡ some receiver)). now receiver t.1)
+      (at_set ranks rank to new receiver f))
+
+  pub link_from : (from : ℕ) → SamePuts old new rank → ((sender : RankView) → get_elem? ranks from ≡ some sender → LinkAt settings homes words from rank sender new) →
+      (sender receiver : RankView) → get_elem? (set ranks rank new) from ≡ some sender → get_elem? (set ranks rank new) rank ≡ some receiver → LinkAt settings homes words from rank sender receiver
+  link_from from puts now sender receiver e f = subst (λ (y : RankView). LinkAt settings homes words from rank sender y) (new_here receiver f) (⊎_elim
+      (λ (t : (from ≡ rank) × (new ≡ sender)). subst (λ (y : RankView). LinkAt settings homes words from rank y new) t.1
+          (at_ends settings homes words from rank old new new new puts (same_takes new from) (now old (ap (get_elem? ranks) t.0 ∙ at))))
+      (λ (t : (from ≢ rank) × (get_elem? ranks from ≡ some sender)). now sender t.1)
+      (at_set ranks rank from new sender e))
+
+-- a step that changes nothing of any link
+pub every_link : (settings : Settings) (ranks : List RankView) (all : length ranks ≡ settings.layout.ranks) (rank : ℕ) (old new : RankView) (at : get_elem? ranks rank ≡ some old) (within : rank < settings.layout.ranks) (some_ring : 0 < settings.ring) →
+    ((to : ℕ) → SamePuts old new to) → ((from : ℕ) → SameTakes old new from) → (homes : Homes (List Letter)) (words words' : List ℕ) →
+    ((from to : ℕ) → word_at words' (tail_at from to) ≡ word_at words (tail_at from to)) → ((from to : ℕ) → word_at words' (head_at from to) ≡ word_at words (head_at from to)) →
+    LinksAt settings homes words ranks → LinksAt settings homes words' (set ranks rank new)
+every_link settings ranks all rank old new at within some_ring puts takes homes words words' tails heads links =
+    links_after settings ranks all rank old new at rank rank within (λ to _. puts to) (λ from _. takes from) some_ring homes homes words words' (λ from to _ _ _. tails from to) (λ from to _ _ _. heads from to) (λ k free. refl) links
+        (link_to settings homes words' ranks rank old new at rank (takes rank) (λ receiver there.
+          subst (λ (z : ℕ × ℕ). LinkAgrees settings.ring (base settings.layout.ranks settings.ring rank rank) homes z.0 z.1 (batches_put rank new.log) (is_at new.filling rank) (batches_taken rank receiver.log) (is_at receiver.emptying rank))
+              (λ i. (sym (tails rank rank) i, sym (heads rank rank) i))
+              (at_ends settings homes words rank rank old receiver new receiver (puts rank) (same_takes receiver rank) (links rank rank old receiver at there))))
