@@ -1,4 +1,5 @@
 pub mod Found
 pub mod OneLink
 pub mod Rule
+pub mod Seats
 pub mod Words
