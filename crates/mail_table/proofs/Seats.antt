@@ -1,1 +1,2 @@
 pub mod AsCalled
+pub mod Between

@@ -33,21 +33,20 @@ pub record IsAt (settings : Settings) (rank : ℕ) (seat : Seated) : Type 0 wher
   pub empties_none : (mine seat.0).emptying ≡ None
   pub hand : seat.1 ≡ []
 
--- it has the slot of its next batch to a rank, the batch of this number, and the batch is there
-pub record IsFilling (settings : Settings) (rank to number : ℕ) (batch : List Letter) (seat : Seated) : Type 0 where
+-- it has the slot of its next batch to a rank, the batch of this number, and the slot holds this
+pub record IsFilling (settings : Settings) (rank to number : ℕ) (value : Option (List Letter)) (seat : Seated) : Type 0 where
   pub of : IsOf settings rank seat.0
   pub within : to < settings.layout.ranks
   pub filling : (mine seat.0).filling ≡ Some to
   pub number_is : number ≡ put_in seat.0 to
-  pub hand : seat.1 ≡ (slot_to seat.0 to number, Some batch) ∷ []
+  pub hand : seat.1 ≡ (slot_to seat.0 to number, value) ∷ []
 
--- it has the slot of the last batch that it took from a rank, the batch of this number
-pub record IsEmptying (settings : Settings) (rank from number : ℕ) (seat : Seated) : Type 0 where
+-- it has the slot of the last batch that it took from a rank, the batch of this number, and the slot holds this
+pub record IsEmptying (settings : Settings) (rank from number : ℕ) (value : Option (List Letter)) (seat : Seated) : Type 0 where
   pub of : IsOf settings rank seat.0
   pub within : from < settings.layout.ranks
   pub emptying : (mine seat.0).emptying ≡ Some from
   pub number_is : taken_in seat.0 from ≡ number + 1
-  pub value : Option (List Letter)
   pub hand : seat.1 ≡ (slot_from seat.0 from number, value) ∷ []
 
 -- what the seat becomes where this is then known of its rank

@@ -102,7 +102,7 @@ impl Links {
     /// Puts the batch in the slot that the seat has.
     fn store_tail(&self, seat: &mut Mail, rank: u32, to: u32, made: u64)
         requires table { seat.old.table_id ≡ self.now.table.shared.table_id }
-        requires filling { IsFilling self.now.settings rank to made (batch_in seat.old.me.1) seat.old.me }
+        requires filling { IsFilling self.now.settings rank to made (Some (batch_in seat.old.me.1)) seat.old.me }
         requires few { made < self.now.settings.batches }
         requires honest { first_broken (local_in seat.old.me.0) (Puts to (batch_in seat.old.me.1)) ≡ None }
         ensures table { seat.new.table_id ≡ seat.old.table_id }
@@ -131,7 +131,7 @@ impl Links {
     /// Gives back the slot that the seat emptied.
     fn store_head(&self, seat: &mut Mail, rank: u32, from: u32, made: u64)
         requires table { seat.old.table_id ≡ self.now.table.shared.table_id }
-        requires emptying { IsEmptying self.now.settings rank from made seat.old.me }
+        requires emptying { IsEmptying self.now.settings rank from made None seat.old.me }
         requires few { made < 2 ^ 64 - 1 }
         ensures table { seat.new.table_id ≡ seat.old.table_id }
         ensures freed { seat.new.me ≡ (after_free seat.old.me.0, []) }
@@ -152,6 +152,7 @@ impl Links {
     ) -> Result<(), Batch>
         requires table { seat.old.table_id ≡ self.now.table.shared.table_id }
         requires at { IsAt self.now.settings rank seat.old.me }
+        requires receiver { to < self.now.settings.layout.ranks }
         requires made { made ≡ put_in seat.old.me.0 to }
         requires honest { first_broken (local_in seat.old.me.0) (Puts to batch) ≡ None }
         ensures table { seat.new.table_id ≡ seat.old.table_id }

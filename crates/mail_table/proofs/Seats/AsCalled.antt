@@ -65,7 +65,7 @@ module _ (key settings : Settings) (key_is : key ≡ settings) (slots seat rank 
 
   -- ---- the tail word is stored
 
-  pub may_store_tail : PutLaw → (to number tail : ℕ) (batch : List Letter) → IsFilling settings rank to number batch me → word ≡ tail_at rank to → tail ≡ number + 1 → first_broken (local_in me.0) (Puts to batch) ≡ None →
+  pub may_store_tail : PutLaw → (to number tail : ℕ) (batch : List Letter) → IsFilling settings rank to number (Some batch) me → word ≡ tail_at rank to → tail ≡ number + 1 → first_broken (local_in me.0) (Puts to batch) ≡ None →
       Allows (Rule key) slots seat me word (λ _. tail) (λ _. StoresTail (step slots word tail 0 none) me tail)
   may_store_tail law to number tail batch filling e next honest =
       subst (λ (z : Settings × ℕ). Allows (Rule z.0) slots seat me z.1 (λ _. tail) (λ _. StoresTail (step slots z.1 tail 0 none) me tail)) (λ i. (key_here i, tail_to to e i))
@@ -84,11 +84,11 @@ module _ (key settings : Settings) (key_is : key ≡ settings) (slots seat rank 
 
   -- ---- the head word is stored
 
-  pub may_store_head : (from number head : ℕ) → IsEmptying settings rank from number me → word ≡ head_at from rank → head ≡ number + 1 →
+  pub may_store_head : (from number head : ℕ) (value : Option (List Letter)) → IsEmptying settings rank from number value me → word ≡ head_at from rank → head ≡ number + 1 →
       Allows (Rule key) slots seat me word (λ _. head) (λ _. StoresHead (step slots word head 0 none) me head)
-  may_store_head from number head emptying e next =
+  may_store_head from number head value emptying e next =
       subst (λ (z : Settings × ℕ). Allows (Rule z.0) slots seat me z.1 (λ _. head) (λ _. StoresHead (step slots z.1 head 0 none) me head)) (λ i. (key_here i, head_from from e i))
-          (stores_head seat from me of.one (there from emptying.within) number head emptying.value emptying.emptying emptying.hand emptying.number_is next slots)
+          (stores_head seat from me of.one (there from emptying.within) number head value emptying.emptying emptying.hand emptying.number_is next slots)
 
   -- ---- the stop word
 
