@@ -1,5 +1,5 @@
 //! The words and the slots of all links, and the steps that ranks make on them.
-ghost use Rattle.std.specs.Prelude.{◌≡◌, ◌<◌, ◌≤◌, ◌-◌, ◌^◌, true, ℕ, None, Some, [], ◌∷◌, length, IfOk, IfErr, OnOk, IfSome, IsNone};
+ghost use Rattle.std.specs.Prelude.{◌≡◌, ◌<◌, ◌≤◌, ◌+◌, ◌-◌, ◌^◌, true, ℕ, None, Some, [], ◌∷◌, length, IfOk, IfErr, OnOk, IfSome, IsNone};
 ghost use Rattle.ygm_route.specs.Layout.{max_ranks};
 ghost use Rattle.world_core.specs.Rules.{first_broken};
 ghost use Rattle.world_core.specs.Rules.Deed.{Puts};
@@ -177,6 +177,7 @@ impl Links {
         requires sender { from < self.now.settings.layout.ranks }
         requires made { made ≡ taken_in seat.old.me.0 from }
         ensures table { seat.new.table_id ≡ seat.old.table_id }
+        ensures few { IfSome result (λ batch. made + 1 < 2 ^ 64) }
         ensures took { IfSome result (λ batch. SeatTook from batch seat.old.me seat.new.me) }
         ensures none { IsNone result → SeatNone from seat.old.me seat.new.me }
     {
