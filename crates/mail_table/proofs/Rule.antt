@@ -1,5 +1,6 @@
 pub mod OneRank
 pub mod OtherLinks
+pub mod Passes
 pub mod Puts
 pub mod StopWord
 pub mod Stops

@@ -17,7 +17,8 @@ use atomic_table::{Seat, Table};
 use msg_codec::Batch;
 use std::alloc::{AllocError, Global};
 use world_core::laws::{
-    an_honest_put_keeps_a_sound_world, taking_the_next_batch_keeps_a_sound_world,
+    a_fresh_world_is_sound, an_honest_put_keeps_a_sound_world,
+    taking_the_next_batch_keeps_a_sound_world,
 };
 use ygm_route::MAX_RANKS;
 
@@ -79,6 +80,7 @@ impl Links {
         ensures settings { IfOk result (λ made. made.0.settings ≡ settings) }
         ensures seat { IfOk result (λ made. (made.1.table_id ≡ made.0.table.shared.table_id) × (made.1.me ≡ (fresh_view settings, []))) }
     {
+        a_fresh_world_is_sound();
         let ranks = settings.layout.ranks();
         let words = Vec::from_elem(alloc, 0, row(ranks))?;
         let slots = ranks as usize * ranks as usize * settings.ring as usize;

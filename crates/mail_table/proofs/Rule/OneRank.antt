@@ -96,8 +96,8 @@ module _ (settings : Settings) where
   after_load mails rule seat view new homes word at one wide raised links world =
       let here = is_here mails rule seat view.first view at refl one in
       subst (λ (words : List ℕ). Rule settings record { words = words; homes = homes; views = set mails.views seat (knowing view new) }) (sym (set_same mails.words word))
-          (rebuilt mails rule seat view.first view new mails.words homes at refl one wide refl links
-              (rule.stop ∙ ap one_if (sym (same_raised rule.ranks view.first (mine view) new here.there raised))) world)
+      (rebuilt mails rule seat view.first view new mails.words homes at refl one wide refl links
+      (rule.stop ∙ ap one_if (sym (same_raised rule.ranks view.first (mine view) new here.there raised))) world)
 
   -- after a store to another word than that of the stop
   pub after_store : (mails : Mails) (rule : Rule settings mails) (seat : ℕ) (view : View) (new : RankView) (homes : Homes (List Letter)) (word value : ℕ) → word ≢ stop_word →
@@ -107,4 +107,4 @@ module _ (settings : Settings) where
   after_store mails rule seat view new homes word value other at one wide raised links world =
       let here = is_here mails rule seat view.first view at refl one in
       rebuilt mails rule seat view.first view new (set mails.words word value) homes at refl one wide (length-set mails.words word value) links
-          (get_or-set_other mails.words word stop_word value 0 (λ e. other (sym e)) ∙ rule.stop ∙ ap one_if (sym (same_raised rule.ranks view.first (mine view) new here.there raised))) world
+      (get_or-set_other mails.words word stop_word value 0 (λ e. other (sym e)) ∙ rule.stop ∙ ap one_if (sym (same_raised rule.ranks view.first (mine view) new here.there raised))) world

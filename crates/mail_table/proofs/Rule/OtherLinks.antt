@@ -41,7 +41,7 @@ pub at_ends : (settings : Settings) (homes : Homes (List Letter)) (words : List 
     LinkAt settings homes words from to sender receiver → LinkAt settings homes words from to sender' receiver'
 at_ends settings homes words from to sender receiver sender' receiver' p t link =
     subst (λ (z : List (List Letter) × Bool × List (List Letter) × Bool). LinkAgrees settings.ring (base settings.layout.ranks settings.ring from to) homes (word_at words (tail_at from to)) (word_at words (head_at from to)) z.0 z.1 z.2 z.3)
-        (λ i. (sym p.put i, sym p.filling i, sym t.taken i, sym t.emptying i)) link
+    (λ i. (sym p.put i, sym p.filling i, sym t.taken i, sym t.emptying i)) link
 
 module _ (settings : Settings) (ranks : List RankView) (all : length ranks ≡ settings.layout.ranks) (rank : ℕ) (old new : RankView) (at : get_elem? ranks rank ≡ some old) (i j : ℕ) (in_j : j < settings.layout.ranks)
     (puts : (to : ℕ) → Other i j rank to → SamePuts old new to) (takes : (from : ℕ) → Other i j from rank → SameTakes old new from) where
@@ -77,11 +77,11 @@ module _ (settings : Settings) (ranks : List RankView) (all : length ranks ≡ s
         let a = was from sender at_from in let b = was to receiver at_to in
         let in_from = near from sender at_from in let in_to = near to receiver at_to in
         at_ends settings homes' words' from to a.before b.before sender receiver (a.puts_as to other) (b.takes_as from other)
-            (stays settings.ring (base settings.layout.ranks settings.ring from to) homes homes' (word_at words (tail_at from to)) (word_at words (head_at from to)) (word_at words' (tail_at from to)) (word_at words' (head_at from to))
-                (batches_put to a.before.log) (is_at a.before.filling to) (batches_taken from b.before.log) (is_at b.before.emptying from) (tails from to in_from in_to other) (heads from to in_from in_to other)
-                (λ t. slots (base settings.layout.ranks settings.ring from to + t % settings.ring)
-                    (λ x inside e. let same = one_slot settings.layout.ranks settings.ring from to i j (t % settings.ring) x in_to in_j (mod-lt t some_ring) inside e in other same.0 same.1))
-                (links from to a.before b.before a.there b.there))
+        (stays settings.ring (base settings.layout.ranks settings.ring from to) homes homes' (word_at words (tail_at from to)) (word_at words (head_at from to)) (word_at words' (tail_at from to)) (word_at words' (head_at from to))
+        (batches_put to a.before.log) (is_at a.before.filling to) (batches_taken from b.before.log) (is_at b.before.emptying from) (tails from to in_from in_to other) (heads from to in_from in_to other)
+        (λ t. slots (base settings.layout.ranks settings.ring from to + t % settings.ring)
+        (λ x inside e. let same = one_slot settings.layout.ranks settings.ring from to i j (t % settings.ring) x in_to in_j (mod-lt t some_ring) inside e in other same.0 same.1))
+        (links from to a.before b.before a.there b.there))
 
     pub links_after : LinksAt settings homes words ranks →
         ((sender receiver : RankView) → get_elem? (set ranks rank new) i ≡ some sender → get_elem? (set ranks rank new) j ≡ some receiver → LinkAt settings homes' words' i j sender receiver) →
@@ -104,7 +104,7 @@ module _ (settings : Settings) (homes : Homes (List Letter)) (words : List ℕ) 
       (sender receiver : RankView) → get_elem? (set ranks rank new) rank ≡ some sender → get_elem? (set ranks rank new) to ≡ some receiver → LinkAt settings homes words rank to sender receiver
   link_to to takes now sender receiver e f = subst (λ (y : RankView). LinkAt settings homes words rank to y receiver) (new_here sender e) (⊎_elim
       (λ (t : (to ≡ rank) × (new ≡ receiver)). subst (λ (y : RankView). LinkAt settings homes words rank to new y) t.1
-          (at_ends settings homes words rank to new old new new (same_puts new to) takes (now old (ap (get_elem? ranks) t.0 ∙ at))))
+      (at_ends settings homes words rank to new old new new (same_puts new to) takes (now old (ap (get_elem? ranks) t.0 ∙ at))))
       (λ (t : (to ≢ rank) × (get_elem? ranks to ≡ some receiver)). now receiver t.1)
       (at_set ranks rank to new receiver f))
 
@@ -112,7 +112,7 @@ module _ (settings : Settings) (homes : Homes (List Letter)) (words : List ℕ) 
       (sender receiver : RankView) → get_elem? (set ranks rank new) from ≡ some sender → get_elem? (set ranks rank new) rank ≡ some receiver → LinkAt settings homes words from rank sender receiver
   link_from from puts now sender receiver e f = subst (λ (y : RankView). LinkAt settings homes words from rank sender y) (new_here receiver f) (⊎_elim
       (λ (t : (from ≡ rank) × (new ≡ sender)). subst (λ (y : RankView). LinkAt settings homes words from rank y new) t.1
-          (at_ends settings homes words from rank old new new new puts (same_takes new from) (now old (ap (get_elem? ranks) t.0 ∙ at))))
+      (at_ends settings homes words from rank old new new new puts (same_takes new from) (now old (ap (get_elem? ranks) t.0 ∙ at))))
       (λ (t : (from ≢ rank) × (get_elem? ranks from ≡ some sender)). now sender t.1)
       (at_set ranks rank from new sender e))
 
@@ -123,7 +123,7 @@ pub every_link : (settings : Settings) (ranks : List RankView) (all : length ran
     LinksAt settings homes words ranks → LinksAt settings homes words' (set ranks rank new)
 every_link settings ranks all rank old new at within some_ring puts takes homes words words' tails heads links =
     links_after settings ranks all rank old new at rank rank within (λ to _. puts to) (λ from _. takes from) some_ring homes homes words words' (λ from to _ _ _. tails from to) (λ from to _ _ _. heads from to) (λ k free. refl) links
-        (link_to settings homes words' ranks rank old new at rank (takes rank) (λ receiver there.
-          subst (λ (z : ℕ × ℕ). LinkAgrees settings.ring (base settings.layout.ranks settings.ring rank rank) homes z.0 z.1 (batches_put rank new.log) (is_at new.filling rank) (batches_taken rank receiver.log) (is_at receiver.emptying rank))
-              (λ i. (sym (tails rank rank) i, sym (heads rank rank) i))
-              (at_ends settings homes words rank rank old receiver new receiver (puts rank) (same_takes receiver rank) (links rank rank old receiver at there))))
+    (link_to settings homes words' ranks rank old new at rank (takes rank) (λ receiver there.
+    subst (λ (z : ℕ × ℕ). LinkAgrees settings.ring (base settings.layout.ranks settings.ring rank rank) homes z.0 z.1 (batches_put rank new.log) (is_at new.filling rank) (batches_taken rank receiver.log) (is_at receiver.emptying rank))
+    (λ i. (sym (tails rank rank) i, sym (heads rank rank) i))
+    (at_ends settings homes words rank rank old receiver new receiver (puts rank) (same_takes receiver rank) (links rank rank old receiver at there))))

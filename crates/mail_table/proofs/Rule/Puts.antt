@@ -39,18 +39,25 @@ room_at settings put head e = grind (arith, e)
 module _ (seat to : ℕ) (me : Seated) (one : me.0.ranks ≡ mine me.0 ∷ []) (in_to : to < me.0.settings.layout.ranks) where
   abbrev v : View
   v = me.0
+
   abbrev settings : Settings
   settings = v.settings
+
   abbrev rank : ℕ
   rank = v.first
+
   abbrev h : RankView
   h = mine v
+
   abbrev ring : ℕ
   ring = settings.ring
+
   abbrev here_base : ℕ
   here_base = base settings.layout.ranks ring rank to
+
   abbrev ps : List (List Letter)
   ps = batches_put to h.log
+
   -- the slot of the next batch
   abbrev next_slot : ℕ
   next_slot = slot_at settings.layout.ranks ring rank to (length ps)
@@ -100,9 +107,9 @@ module _ (seat to : ℕ) (me : Seated) (one : me.0.ranks ≡ mine me.0 ∷ []) (
           let puts_as : (q : ℕ) → Other rank to rank q → SamePuts h new q = λ q other. record { put = refl; filling = other_puts filling kind q other ∙ sym (ap (λ (f : Option ℕ). is_at f q) idle) } in
           let takes_as : (p : ℕ) → SameTakes h new p = λ p. record { taken = refl; emptying = refl } in
           after_load settings s r seat v new homes' (head_at rank to) at one same_long refl
-              (links_after settings r.ranks (all_ranks settings s r) rank h new here.there rank to in_to puts_as (λ p other. takes_as p) r.bounds.some_ring s.homes homes' s.words s.words (λ p q _ _ other. refl) (λ p q _ _ other. refl) frame
-                  r.links (link_to settings homes' s.words r.ranks rank h new here.there to (takes_as rank) now))
-              (world_stays settings r.ranks rank h new here.there refl r.world)
+          (links_after settings r.ranks (all_ranks settings s r) rank h new here.there rank to in_to puts_as (λ p other. takes_as p) r.bounds.some_ring s.homes homes' s.words s.words (λ p q _ _ other. refl) (λ p q _ _ other. refl) frame
+          r.links (link_to settings homes' s.words r.ranks rank h new here.there to (takes_as rank) now))
+          (world_stays settings r.ranks rank h new here.there refl r.world)
 
       abbrev HeadTold : Bool → View → List (ℕ × Option (List Letter)) → Type 0
       HeadTold b w out = (w ≡ after_head v to found b) × MatchBool b ((value : Option (List Letter)) × (out ≡ (next_slot, value) ∷ me.1)) (out ≡ me.1)
@@ -139,9 +146,9 @@ module _ (seat to : ℕ) (me : Seated) (one : me.0.ranks ≡ mine me.0 ∷ []) (
         done.2,
         done.3,
         λ to' in_to' same.
-          let few_ = few s r at in let within = (here s r at).within in
-          let is : to ≡ to' = (one_head rank to rank to' (omega (arith, few_, within)) (omega (arith, few_, within)) same).1 in
-          subst (λ (q : ℕ). HeadLoaded q (found s r at idle) me (done.0, carried_after me.1 done.1)) is (record { view = done.4.0; low = low s r at idle; hand = done.4.1 }),
+            let few_ = few s r at in let within = (here s r at).within in
+            let is : to ≡ to' = (one_head rank to rank to' (omega (arith, few_, within)) (omega (arith, few_, within)) same).1 in
+            subst (λ (q : ℕ). HeadLoaded q (found s r at idle) me (done.0, carried_after me.1 done.1)) is (record { view = done.4.0; low = low s r at idle; hand = done.4.1 }),
       )
 
   -- ---- the tail word is stored
@@ -158,45 +165,57 @@ module _ (seat to : ℕ) (me : Seated) (one : me.0.ranks ≡ mine me.0 ∷ []) (
     where
       the : IsHere settings s r seat rank v
       the = here s r at
+
       near_to : to < max_ranks
       near_to = let few_ = few s r at in omega (arith, few_, in_to)
+
       near_rank : rank < max_ranks
       near_rank = let few_ = few s r at in let within = the.within in omega (arith, few_, within)
+
       new : RankView
       new = record h { log = h.log ++ Put to batch ∷ []; filling = None }
+
       homes' : Homes (List Letter)
       homes' = set s.homes next_slot (some (Some batch))
+
       words' : List ℕ
       words' = set s.words (tail_at rank to) tail
+
       w_is : knowing v new ≡ after_put v (batch_in me.1)
       w_is = ap (λ (z : ℕ × List Letter). knowing v (record h { log = h.log ++ Put z.0 z.1 ∷ []; filling = None })) (λ i. (sym (ap rank_in busy) i, sym (ap batch_in hand) i))
+
       long : tail_at rank to < length s.words
       long = subst (λ (k : ℕ). tail_at rank to < k) (sym r.words) (tail_within settings.layout.ranks rank to the.within near_to)
+
       more : batches_put to new.log ≡ ps ++ batch ∷ []
       more = batches_put-put h.log to to batch ∙ ap (λ (b : Bool). ps ++ (if b then batch ∷ [] else [])) (eq-eqb to to refl)
+
       puts_as : (q : ℕ) → Other rank to rank q → SamePuts h new q
       puts_as q other =
           let apart : nat_eq to q ≡ false = ne_eqb to q (λ e. other refl (sym e)) in record {
             put = batches_put-put h.log to q batch ∙ ap (λ (b : Bool). batches_put q h.log ++ (if b then batch ∷ [] else [])) apart ∙ append-nil (batches_put q h.log);
             filling = sym (ap (λ (f : Option ℕ). is_at f q) busy ∙ apart);
           }
+
       takes_as : (p : ℕ) → SameTakes h new p
       takes_as p = record { taken = batches_taken-put h.log to p batch; emptying = refl }
+
       now : (b : RankView) → get_elem? r.ranks to ≡ some b → LinkAt settings homes' words' rank to new b
       now b there =
           let old = subst (λ (f : Bool). LinkAgrees ring here_base s.homes (word_at s.words (tail_at rank to)) (word_at s.words (head_at rank to)) ps f (batches_taken rank b.log) (is_at b.emptying rank))
-              (ap (λ (f : Option ℕ). is_at f to) busy ∙ eq-eqb to to refl) (r.links rank to h b the.there there) in
+          (ap (λ (f : Option ℕ). is_at f to) busy ∙ eq-eqb to to refl) (r.links rank to h b the.there there) in
           let done = puts ring here_base r.bounds.some_ring s.homes (wide s r at) ps (word_at s.words (tail_at rank to)) (word_at s.words (head_at rank to)) (batches_taken rank b.log) (is_at b.emptying rank) batch
-              (word_at words' (tail_at rank to)) (get_or-set_same s.words (tail_at rank to) tail 0 long ∙ next) old in
+          (word_at words' (tail_at rank to)) (get_or-set_same s.words (tail_at rank to) tail 0 long ∙ next) old in
           subst (λ (z : ℕ × List (List Letter)). LinkAgrees ring here_base homes' (word_at words' (tail_at rank to)) z.0 z.1 false (batches_taken rank b.log) (is_at b.emptying rank))
-              (λ i. (sym (get_or-set_other s.words (tail_at rank to) (head_at rank to) tail 0 (λ z. no_head rank to rank to near_to near_rank (sym z))) i, sym more i)) done
+          (λ i. (sym (get_or-set_other s.words (tail_at rank to) (head_at rank to) tail 0 (λ z. no_head rank to rank to near_to near_rank (sym z))) i, sym more i)) done
+
       ruled : Rule settings record { words = words'; homes = homes'; views = set s.views seat (knowing v new) }
       ruled = after_store settings s r seat v new homes' (tail_at rank to) tail (tail_some rank to) at one (length-set s.homes next_slot (some (Some batch))) refl
           (links_after settings r.ranks (all_ranks settings s r) rank h new the.there rank to in_to puts_as (λ p other. takes_as p) r.bounds.some_ring s.homes homes' s.words words'
-              (λ p q in_p in_q other. get_or-set_other s.words (tail_at rank to) (tail_at p q) tail 0
-                  (λ e. let same = one_tail p q rank to (let few_ = few s r at in omega (arith, few_, in_q)) near_to e in other same.0 same.1))
-              (λ p q in_p in_q other. get_or-set_other s.words (tail_at rank to) (head_at p q) tail 0
-                  (λ e. no_head rank to p q near_to (let few_ = few s r at in omega (arith, few_, in_p)) (sym e)))
-              (other_slot s r at (some (Some batch)))
-              r.links (link_to settings homes' words' r.ranks rank h new the.there to (takes_as rank) now))
+          (λ p q in_p in_q other. get_or-set_other s.words (tail_at rank to) (tail_at p q) tail 0
+          (λ e. let same = one_tail p q rank to (let few_ = few s r at in omega (arith, few_, in_q)) near_to e in other same.0 same.1))
+          (λ p q in_p in_q other. get_or-set_other s.words (tail_at rank to) (head_at p q) tail 0
+          (λ e. no_head rank to p q near_to (let few_ = few s r at in omega (arith, few_, in_p)) (sym e)))
+          (other_slot s r at (some (Some batch)))
+          r.links (link_to settings homes' words' r.ranks rank h new the.there to (takes_as rank) now))
           (world_after_put settings r.ranks rank h new the.there law to batch refl honest r.world)

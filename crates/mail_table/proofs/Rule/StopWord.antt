@@ -23,10 +23,13 @@ use Rattle.mail_table.proofs.Words.Apart.{head_some, tail_some}
 module _ (seat : ℕ) (me : Seated) (one : me.0.ranks ≡ mine me.0 ∷ []) where
   abbrev v : View
   v = me.0
+
   abbrev settings : Settings
   settings = v.settings
+
   abbrev rank : ℕ
   rank = v.first
+
   abbrev h : RankView
   h = mine v
 
@@ -42,7 +45,7 @@ module _ (seat : ℕ) (me : Seated) (one : me.0.ranks ≡ mine me.0 ∷ []) wher
         tt,
         rebuilt settings s r seat rank v new (set s.words stop_word 1) s.homes at refl one refl (length-set s.words stop_word 1)
             (every_link settings r.ranks (all_ranks settings s r) rank h new the.there the.within r.bounds.some_ring (λ q. record { put = refl; filling = refl }) (λ p. record { taken = refl; emptying = refl }) s.homes s.words (set s.words stop_word 1)
-                (λ p q. get_or-set_other s.words stop_word (tail_at p q) 1 0 (tail_some p q)) (λ p q. get_or-set_other s.words stop_word (head_at p q) 1 0 (head_some p q)) r.links)
+            (λ p q. get_or-set_other s.words stop_word (tail_at p q) 1 0 (tail_some p q)) (λ p q. get_or-set_other s.words stop_word (head_at p q) 1 0 (head_some p q)) r.links)
             (get_or-set_same s.words stop_word 1 0 (some_word s r) ∙ ap one_if (sym (now_raised r.ranks rank new the.near refl)))
             (world_stays settings r.ranks rank h new the.there refl r.world),
         refl,

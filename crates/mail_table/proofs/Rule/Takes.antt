@@ -32,16 +32,22 @@ use Rattle.mail_table.proofs.Words.Apart.{base_within, head_some, head_within, n
 module _ (seat from : ℕ) (me : Seated) (one : me.0.ranks ≡ mine me.0 ∷ []) (in_from : from < me.0.settings.layout.ranks) where
   abbrev v : View
   v = me.0
+
   abbrev settings : Settings
   settings = v.settings
+
   abbrev rank : ℕ
   rank = v.first
+
   abbrev h : RankView
   h = mine v
+
   abbrev ring : ℕ
   ring = settings.ring
+
   abbrev here_base : ℕ
   here_base = base settings.layout.ranks ring from rank
+
   abbrev ts : List (List Letter)
   ts = batches_taken from h.log
 
@@ -96,22 +102,22 @@ module _ (seat from : ℕ) (me : Seated) (one : me.0.ranks ≡ mine me.0 ∷ [])
           let world = world_after_take settings r.ranks rank h new here.there law from sender.0 batch sender.1 refl got.1 r.world in
           let puts_as : (q : ℕ) → SamePuts h new q = λ q. record { put = batches_put-took h.log from q batch; filling = refl } in
           let takes_as : (p : ℕ) → Other from rank p rank → SameTakes h new p = λ p other.
-              let apart : nat_eq from p ≡ false = ne_eqb from p (λ z. other (sym z) refl) in record {
-                taken = batches_taken-took h.log from p batch ∙ ap (λ (b : Bool). batches_taken p h.log ++ (if b then batch ∷ [] else [])) apart ∙ append-nil (batches_taken p h.log);
-                emptying = apart ∙ sym (ap (λ (e : Option ℕ). is_at e p) idle);
-              } in
+          let apart : nat_eq from p ≡ false = ne_eqb from p (λ z. other (sym z) refl) in record {
+            taken = batches_taken-took h.log from p batch ∙ ap (λ (b : Bool). batches_taken p h.log ++ (if b then batch ∷ [] else [])) apart ∙ append-nil (batches_taken p h.log);
+            emptying = apart ∙ sym (ap (λ (e : Option ℕ). is_at e p) idle);
+          } in
           let more : batches_taken from new.log ≡ ts ++ batch ∷ [] = batches_taken-took h.log from from batch ∙ ap (λ (b : Bool). ts ++ (if b then batch ∷ [] else [])) (eq-eqb from from refl) in
           let now : (a : RankView) → get_elem? r.ranks from ≡ some a → LinkAt settings homes' s.words from rank a new = λ a at_a.
-              subst (λ (z : List (List Letter) × Bool × List (List Letter) × Bool). LinkAgrees ring here_base homes' found (word_at s.words (head_at from rank)) z.0 z.1 z.2 z.3)
-                  (λ i. (batches_put rank (found_one r.ranks from sender.0 a sender.1 at_a i).log, is_at (found_one r.ranks from sender.0 a sender.1 at_a i).filling rank, sym more i, sym (eq-eqb from from refl) i)) got.3 in (
+          subst (λ (z : List (List Letter) × Bool × List (List Letter) × Bool). LinkAgrees ring here_base homes' found (word_at s.words (head_at from rank)) z.0 z.1 z.2 z.3)
+          (λ i. (batches_put rank (found_one r.ranks from sender.0 a sender.1 at_a i).log, is_at (found_one r.ranks from sender.0 a sender.1 at_a i).filling rank, sym more i, sym (eq-eqb from from refl) i)) got.3 in (
             knowing v new,
             takes next_slot (Some batch),
             batch,
             got.2,
             after_load settings s r seat v new homes' (tail_at from rank) at one (length-set s.homes next_slot none) refl
                 (links_after settings r.ranks (all_ranks settings s r) rank h new here.there from rank here.within (λ q other. puts_as q) takes_as r.bounds.some_ring s.homes homes' s.words s.words (λ p q _ _ other. refl) (λ p q _ _ other. refl)
-                    (λ k free. set_else s.homes next_slot k none (free (length ts % ring) (mod-lt (length ts) r.bounds.some_ring)))
-                    r.links (link_from settings homes' s.words r.ranks rank h new here.there from (puts_as rank) now))
+                (λ k free. set_else s.homes next_slot k none (free (length ts % ring) (mod-lt (length ts) r.bounds.some_ring)))
+                r.links (link_from settings homes' s.words r.ranks rank h new here.there from (puts_as rank) now))
                 world,
             (refl, (refl, modest_here settings r.ranks rank h new here.there here.near here.within world)),
           )
@@ -125,7 +131,7 @@ module _ (seat from : ℕ) (me : Seated) (one : me.0.ranks ≡ mine me.0 ∷ [])
             tt,
             after_load settings s r seat v new s.homes (tail_at from rank) at one refl refl
                 (links_after settings r.ranks (all_ranks settings s r) rank h new here.there from rank here.within (λ q other. puts_as q) (λ p other. takes_as p) r.bounds.some_ring s.homes s.homes s.words s.words (λ p q _ _ other. refl) (λ p q _ _ other. refl) (λ k free. refl)
-                    r.links (link_from settings s.homes s.words r.ranks rank h new here.there from (puts_as rank) (λ a at_a. r.links from rank a h at_a here.there)))
+                r.links (link_from settings s.homes s.words r.ranks rank h new here.there from (puts_as rank) (λ a at_a. r.links from rank a h at_a here.there)))
                 (world_stays settings r.ranks rank h new here.there refl r.world),
             (refl, refl),
           )
@@ -138,9 +144,9 @@ module _ (seat from : ℕ) (me : Seated) (one : me.0.ranks ≡ mine me.0 ∷ [])
         done.3,
         done.4,
         λ from' in_from' same.
-          let few_ = few s r at in let within = (here s r at).within in
-          let is : from ≡ from' = (one_tail from rank from' rank (omega (arith, few_, within)) (omega (arith, few_, within)) same).0 in
-          subst (λ (q : ℕ). TailLoaded q (found s r at idle) me (done.0, carried_after me.1 done.1)) is (record { batch = done.2; view = done.5.0; low = low s r at idle; hand = done.5.1 }),
+            let few_ = few s r at in let within = (here s r at).within in
+            let is : from ≡ from' = (one_tail from rank from' rank (omega (arith, few_, within)) (omega (arith, few_, within)) same).0 in
+            subst (λ (q : ℕ). TailLoaded q (found s r at idle) me (done.0, carried_after me.1 done.1)) is (record { batch = done.2; view = done.5.0; low = low s r at idle; hand = done.5.1 }),
       )
 
   -- ---- the head word is stored
@@ -157,39 +163,50 @@ module _ (seat from : ℕ) (me : Seated) (one : me.0.ranks ≡ mine me.0 ∷ [])
     where
       the : IsHere settings s r seat rank v
       the = here s r at
+
       near_rank : rank < max_ranks
       near_rank = let few_ = few s r at in let within = the.within in omega (arith, few_, within)
+
       near_from : from < max_ranks
       near_from = let few_ = few s r at in omega (arith, few_, in_from)
+
       new : RankView
       new = record h { emptying = None }
+
       k0 : ℕ
       k0 = slot_from v from number
+
       homes' : Homes (List Letter)
       homes' = set s.homes k0 (some value)
+
       words' : List ℕ
       words' = set s.words (head_at from rank) head
+
       long : head_at from rank < length s.words
       long = subst (λ (k : ℕ). head_at from rank < k) (sym r.words) (head_within settings.layout.ranks from rank the.within near_from)
+
       puts_as : (q : ℕ) → SamePuts h new q
       puts_as q = record { put = refl; filling = refl }
+
       takes_as : (p : ℕ) → Other from rank p rank → SameTakes h new p
       takes_as p other = record { taken = refl; emptying = sym (ap (λ (e : Option ℕ). is_at e p) busy ∙ ne_eqb from p (λ z. other (sym z) refl)) }
+
       now : (a : RankView) → get_elem? r.ranks from ≡ some a → LinkAt settings homes' words' from rank a new
       now a there =
           let old = subst (λ (f : Bool). LinkAgrees ring here_base s.homes (word_at s.words (tail_at from rank)) (word_at s.words (head_at from rank)) (batches_put rank a.log) (is_at a.filling rank) ts f)
-              (ap (λ (e : Option ℕ). is_at e from) busy ∙ eq-eqb from from refl) (r.links from rank a h there the.there) in
+          (ap (λ (e : Option ℕ). is_at e from) busy ∙ eq-eqb from from refl) (r.links from rank a h there the.there) in
           subst (λ (tail : ℕ). LinkAgrees ring here_base homes' tail (word_at words' (head_at from rank)) (batches_put rank a.log) (is_at a.filling rank) ts false)
-              (sym (get_or-set_other s.words (head_at from rank) (tail_at from rank) head 0 (λ z. no_head from rank from rank near_rank near_from z)))
-              (frees ring here_base r.bounds.some_ring s.homes (wide s r at) (batches_put rank a.log) (word_at s.words (tail_at from rank)) (word_at s.words (head_at from rank)) ts (is_at a.filling rank) value
-                  (word_at words' (head_at from rank)) number (get_or-set_same s.words (head_at from rank) head 0 long ∙ next ∙ sym before) before old)
+          (sym (get_or-set_other s.words (head_at from rank) (tail_at from rank) head 0 (λ z. no_head from rank from rank near_rank near_from z)))
+          (frees ring here_base r.bounds.some_ring s.homes (wide s r at) (batches_put rank a.log) (word_at s.words (tail_at from rank)) (word_at s.words (head_at from rank)) ts (is_at a.filling rank) value
+          (word_at words' (head_at from rank)) number (get_or-set_same s.words (head_at from rank) head 0 long ∙ next ∙ sym before) before old)
+
       ruled : Rule settings record { words = words'; homes = homes'; views = set s.views seat (knowing v new) }
       ruled = after_store settings s r seat v new homes' (head_at from rank) head (head_some from rank) at one (length-set s.homes k0 (some value)) refl
           (links_after settings r.ranks (all_ranks settings s r) rank h new the.there from rank the.within (λ q other. puts_as q) takes_as r.bounds.some_ring s.homes homes' s.words words'
-              (λ p q in_p in_q other. get_or-set_other s.words (head_at from rank) (tail_at p q) head 0
-                  (λ e. no_head p q from rank (let few_ = few s r at in omega (arith, few_, in_q)) near_from e))
-              (λ p q in_p in_q other. get_or-set_other s.words (head_at from rank) (head_at p q) head 0
-                  (λ e. let same = one_head p q from rank (let few_ = few s r at in omega (arith, few_, in_p)) near_from e in other same.0 same.1))
-              (λ k free. set_else s.homes k0 k (some value) (free (number % ring) (mod-lt number r.bounds.some_ring)))
-              r.links (link_from settings homes' words' r.ranks rank h new the.there from (puts_as rank) now))
+          (λ p q in_p in_q other. get_or-set_other s.words (head_at from rank) (tail_at p q) head 0
+          (λ e. no_head p q from rank (let few_ = few s r at in omega (arith, few_, in_q)) near_from e))
+          (λ p q in_p in_q other. get_or-set_other s.words (head_at from rank) (head_at p q) head 0
+          (λ e. let same = one_head p q from rank (let few_ = few s r at in omega (arith, few_, in_p)) near_from e in other same.0 same.1))
+          (λ k free. set_else s.homes k0 k (some value) (free (number % ring) (mod-lt number r.bounds.some_ring)))
+          r.links (link_from settings homes' words' r.ranks rank h new the.there from (puts_as rank) now))
           (world_stays settings r.ranks rank h new the.there refl r.world)

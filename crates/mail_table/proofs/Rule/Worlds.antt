@@ -57,8 +57,8 @@ module _ (settings : Settings) (ranks : List RankView) (k : ℕ) (old new : Rank
       get_elem? (batches_put k sender.log) (length (batches_taken from old.log)) ≡ some batch → IsWorld (world_in settings ranks) → IsWorld (world_in settings (set ranks k new))
   world_after_take law from sender batch at_sender is next world = subst IsWorld (gained (Took from batch) is)
       (law (world_in settings ranks) from k batch world
-          (subst (λ (z : List Entry × List Entry). slice_get (batches_put k z.0) (length (batches_taken from z.1)) ≡ Some batch) (λ i. (sym (log_is ranks from sender at_sender) i, sym (log_is ranks k old at) i))
-              (as_slice_get (batches_put k sender.log) (length (batches_taken from old.log)) batch next)))
+      (subst (λ (z : List Entry × List Entry). slice_get (batches_put k z.0) (length (batches_taken from z.1)) ≡ Some batch) (λ i. (sym (log_is ranks from sender at_sender) i, sym (log_is ranks k old at) i))
+      (as_slice_get (batches_put k sender.log) (length (batches_taken from old.log)) batch next)))
 
   -- the log of each rank is modest
   pub modest_here : k < length ranks → k < settings.layout.ranks → IsWorld (world_in settings (set ranks k new)) → IsModest (local_rank settings.layout settings.scheme k new.log)

@@ -58,7 +58,7 @@ module _ (key settings : Settings) (key_is : key ≡ settings) (slots seat rank 
   pub may_load_head : IsAt settings rank me → (to : ℕ) → to < settings.layout.ranks → word ≡ head_at rank to → Allows (Rule key) slots seat me word (λ k. k) (LoadsHead (step slots word 0 0 none) me)
   may_load_head at to within e =
       subst (λ (z : Settings × ℕ). Allows (Rule z.0) slots seat me z.1 (λ k. k) (LoadsHead (step slots z.1 0 0 none) me)) (λ i. (key_here i, head_to to e i))
-          (loads_head seat to me of.one (there to within) at.fills_none slots)
+      (loads_head seat to me of.one (there to within) at.fills_none slots)
 
   pub head_loaded : (to found : ℕ) (new : Seated) → to < settings.layout.ranks → word ≡ head_at rank to → LoadsHead (step slots word 0 0 none) me found new → HeadLoaded to found me new
   head_loaded to found new within e loads = loads to (there to within) (sym (head_to to e))
@@ -69,15 +69,15 @@ module _ (key settings : Settings) (key_is : key ≡ settings) (slots seat rank 
       Allows (Rule key) slots seat me word (λ _. tail) (λ _. StoresTail (step slots word tail 0 none) me tail)
   may_store_tail law to number tail batch filling e next honest =
       subst (λ (z : Settings × ℕ). Allows (Rule z.0) slots seat me z.1 (λ _. tail) (λ _. StoresTail (step slots z.1 tail 0 none) me tail)) (λ i. (key_here i, tail_to to e i))
-          (stores_tail seat to me of.one (there to filling.within) law batch tail filling.filling
-              (filling.hand ∙ ap (λ (n : ℕ). (slot_to me.0 to n, Some batch) ∷ []) filling.number_is) (next ∙ ap (λ (n : ℕ). n + 1) filling.number_is) honest slots)
+      (stores_tail seat to me of.one (there to filling.within) law batch tail filling.filling
+      (filling.hand ∙ ap (λ (n : ℕ). (slot_to me.0 to n, Some batch) ∷ []) filling.number_is) (next ∙ ap (λ (n : ℕ). n + 1) filling.number_is) honest slots)
 
   -- ---- the tail word is loaded
 
   pub may_load_tail : TakeLaw → IsAt settings rank me → (from : ℕ) → from < settings.layout.ranks → word ≡ tail_at from rank → Allows (Rule key) slots seat me word (λ k. k) (LoadsTail (step slots word 0 0 none) me)
   may_load_tail law at from within e =
       subst (λ (z : Settings × ℕ). Allows (Rule z.0) slots seat me z.1 (λ k. k) (LoadsTail (step slots z.1 0 0 none) me)) (λ i. (key_here i, tail_from from e i))
-          (loads_tail seat from me of.one (there from within) law at.empties_none slots)
+      (loads_tail seat from me of.one (there from within) law at.empties_none slots)
 
   pub tail_loaded : (from found : ℕ) (new : Seated) → from < settings.layout.ranks → word ≡ tail_at from rank → LoadsTail (step slots word 0 0 none) me found new → TailLoaded from found me new
   tail_loaded from found new within e loads = loads from (there from within) (sym (tail_from from e))
@@ -88,7 +88,7 @@ module _ (key settings : Settings) (key_is : key ≡ settings) (slots seat rank 
       Allows (Rule key) slots seat me word (λ _. head) (λ _. StoresHead (step slots word head 0 none) me head)
   may_store_head from number head value emptying e next =
       subst (λ (z : Settings × ℕ). Allows (Rule z.0) slots seat me z.1 (λ _. head) (λ _. StoresHead (step slots z.1 head 0 none) me head)) (λ i. (key_here i, head_from from e i))
-          (stores_head seat from me of.one (there from emptying.within) number head value emptying.emptying emptying.hand emptying.number_is next slots)
+      (stores_head seat from me of.one (there from emptying.within) number head value emptying.emptying emptying.hand emptying.number_is next slots)
 
   -- ---- the stop word
 

@@ -80,7 +80,7 @@ module _ (settings : Settings) (rank from made tail : ℕ) (old mid : Seated) (a
     has_batch_slot =
         let log = (mine old.0).log in let ts = batches_taken from log in
         let more : batches_taken from (log ++ Took from loaded.batch ∷ []) ≡ ts ++ loaded.batch ∷ [] =
-            batches_taken-took log from from loaded.batch ∙ ap (λ (b : Bool). ts ++ (if b then loaded.batch ∷ [] else [])) (eq-eqb from from refl) in
+        batches_taken-took log from from loaded.batch ∙ ap (λ (b : Bool). ts ++ (if b then loaded.batch ∷ [] else [])) (eq-eqb from from refl) in
         subst (λ (z : Seated). IsEmptying settings rank from made (Some loaded.batch) z) (λ i. (sym view i, sym in_hand.0 i)) (record {
           of = of_knowing settings rank old.0 (record (mine old.0) { log = log ++ Took from loaded.batch ∷ []; tails = loaded_at (mine old.0).tails from tail; emptying = Some from }) at.of;
           within = within;
