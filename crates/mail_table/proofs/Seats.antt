@@ -1,3 +1,4 @@
 pub mod AsCalled
 pub mod Between
+pub mod Dealing
 pub mod Passes
