@@ -90,11 +90,18 @@ pub record IsFreshTable (layout : Shape) (scheme : Scheme) (ring batches : ℕ) 
   pub all : length passes ≡ layout.ranks
   pub each : (rank : ℕ) → rank < layout.ranks → slice_get passes rank ≡ Some (fresh_pass table rank)
 
+-- passes of a table, in the order of ranks from 0 on
+abbrev pub InOrder : TableState → List PassState → Type 0
+InOrder table passes = (k : ℕ) (pass : PassState) → slice_get passes k ≡ Some pass → IsPassOf table pass × (pass.rank ≡ k)
+
 -- all passes of a table, in the order of ranks
 pub record AreAllPasses (table : TableState) (passes : List PassState) : Type 0 where
   pub all : length passes ≡ table.settings.layout.ranks
-  pub each : (k : ℕ) (pass : PassState) → slice_get passes k ≡ Some pass → IsPassOf table pass × (pass.rank ≡ k)
+  pub each : InOrder table passes
 
 -- the logs of a table and its passes
+abbrev pub logs_in : List PassState → List (List Entry)
+logs_in passes = map (λ pass. pass.log) passes
+
 abbrev pub world_of : TableState → List PassState → Logs
-world_of table passes = record { layout = table.settings.layout; scheme = table.settings.scheme; logs = map (λ pass. pass.log) passes }
+world_of table passes = record { layout = table.settings.layout; scheme = table.settings.scheme; logs = logs_in passes }

@@ -1,10 +1,10 @@
 //! How the passes of a table are made, and how they are joined.
-ghost use Rattle.std.specs.Prelude.{◌≡◌, ◌<◌, ◌+◌, [], ◌∷◌, length, map, IfOk, OnOk};
+ghost use Rattle.std.specs.Prelude.{◌≡◌, ◌<◌, ◌+◌, [], ◌∷◌, IfOk, OnOk};
 ghost use Rattle.world_core.specs.Modest.{IsWorld};
 ghost use Rattle.mail_table.specs.Seats.{AreFreshPasses, HasLogs, IsOf, dealing, state_of_links};
 ghost use Rattle.mail_table.specs.Steps.{LearnsAll};
 ghost use Rattle.mail_table.specs.Rule.{world_in};
-ghost use Rattle.mail_table.specs.Table.{AreAllPasses, fresh_pass, world_of};
+ghost use Rattle.mail_table.specs.Table.{AreAllPasses, fresh_pass, logs_in, world_of};
 ghost use Rattle.mail_table.specs.Views.{fresh_view, mine};
 
 use crate::links::{Links, Mail};
@@ -64,7 +64,7 @@ fn seat_of(pass: Pass) -> Mail
 fn gathered(links: &Links, mut passes: Vec<Pass>) -> Mail
     requires { AreAllPasses (state_of_links links.now.table.shared.table_id links.now.settings) passes.items }
     ensures table { result.table_id ≡ links.now.table.shared.table_id }
-    ensures has { HasLogs links.now.settings 0 (map (λ pass. pass.log) passes.items) result.me }
+    ensures has { HasLogs links.now.settings 0 (logs_in passes.items) result.me }
 {
     let Some(last) = passes.pop() else {
         unreachable!()
