@@ -5,4 +5,5 @@ pub mod AfterTake
 pub mod Arrived
 pub mod Direct
 pub mod Fresh
+pub mod MayTurn
 pub mod Served

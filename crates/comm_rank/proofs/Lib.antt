@@ -4,6 +4,5 @@ pub mod Gains
 pub mod Moves
 pub mod Rank
 pub mod Running
-pub mod Settled
 pub mod Store
 pub mod Turns

@@ -6,6 +6,5 @@ pub mod Moves
 pub mod Rank
 pub mod Running
 pub mod Sends
-pub mod Settled
 pub mod Store
 pub mod Turns

@@ -54,9 +54,9 @@ pub record PutsFailed (here : ℕ) (before after : List (List Letter)) (old new 
 -- ---- one put to a rank
 
 -- the first letter for it was put, or the link was full
-abbrev pub PutsOne : Bool → ℕ → ℕ → List (List Letter) → List (List Letter) → PostState → PostState → Type 0
-PutsOne true here to before after old new = (length (held_for before to) ≡ length (held_for after to) + 1) × SameFulls old new
-PutsOne false here to before after old new = MetFull here to after old new × FullsRise to old new
+abbrev pub PutsOne : Bool → ℕ → List (List Letter) → List (List Letter) → PostState → PostState → Type 0
+PutsOne true to before after old new = (length (held_for before to) ≡ length (held_for after to) + 1) × SameFulls old new
+PutsOne false to before after old new = MetFull to after old new × FullsRise to old new
 
 -- how many batches that is
 abbrev pub put_count : Bool → ℕ
@@ -67,20 +67,20 @@ pub record HasPutFirst (here to : ℕ) (before after : List (List Letter)) (old 
   pub placed : List Entry
   pub moved : Moved here before after old new placed
   pub count : length placed ≡ put_count put
-  pub one : PutsOne put here to before after old new
+  pub one : PutsOne put to before after old new
 
 -- ---- puts to one rank
 
 -- the link is full, or no closed batch is held for it
-abbrev pub PutUntil : Bool → ℕ → ℕ → List (List Letter) → PostState → PostState → Type 0
-PutUntil true here to held old new = MetFull here to held old new × FullsRise to old new
-PutUntil false here to held old new = NoneClosed held to × SameFulls old new
+abbrev pub PutUntil : Bool → ℕ → List (List Letter) → PostState → PostState → Type 0
+PutUntil true to held old new = MetFull to held old new × FullsRise to old new
+PutUntil false to held old new = NoneClosed held to × SameFulls old new
 
 pub record HasPutTo (here to : ℕ) (before after : List (List Letter)) (old new : PostState) (put : ℕ) (full : Bool) : Type 0 where
   pub placed : List Entry
   pub moved : Moved here before after old new placed
   pub count : put ≡ length placed
-  pub until : PutUntil full here to after old new
+  pub until : PutUntil full to after old new
 
 -- ---- puts to all ranks
 
@@ -88,7 +88,7 @@ pub record HasPutEach (here ranks : ℕ) (before after : List (List Letter)) (ol
   pub placed : List Entry
   pub moved : Moved here before after old new placed
   pub count : put ≡ min (length placed) (2 ^ 64 - 1)
-  pub none_or_full : (to : ℕ) → to < ranks → NoneOrFull here to after old new
+  pub none_or_full : (to : ℕ) → to < ranks → NoneOrFull to after old new
   pub first_full : FirstFull ranks after old new full
   pub none_held : full ≡ None → (to : ℕ) → to < ranks → NoneClosed after to
 
@@ -106,7 +106,7 @@ pub record HasPutAll {C : Type 0} (old new : Rank C) (before after : PostState) 
   pub placed : List Entry
   pub out : PutOut old new (before.log old.here) (after.log old.here) placed
   pub count : put ≡ min (length placed) (2 ^ 64 - 1)
-  pub none_or_full : (to : ℕ) → to < old.layout.ranks → NoneOrFull old.here to new.held before after
+  pub none_or_full : (to : ℕ) → to < old.layout.ranks → NoneOrFull to new.held before after
   pub first_full : FirstFull old.layout.ranks new.held before after full
   pub none_held : full ≡ None → held_letters new ≡ []
 

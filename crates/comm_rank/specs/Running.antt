@@ -6,7 +6,7 @@ use Rattle.msg_codec.specs.declared.letter.Letter.{Letter}
 use Rattle.world_core.specs.declared.entry.Entry.{Entry}
 use Rattle.world_core.specs.Log.{IsTake, batches_taken, letters_taken}
 use Rattle.world_core.specs.Pairs.{is_data, for_rank}
-use Rattle.world_core.specs.Post.{CountsNeverFall, SameFulls, SamePost, SameStops, PostState, link_in}
+use Rattle.world_core.specs.Post.{CountsNeverFall, SameFulls, SamePost, SameStops, PostState}
 use Rattle.world_core.specs.Rules.{IsHonest}
 use Rattle.comm_rank.specs.declared.fault.CommFault.{CommFault}
 use Rattle.comm_rank.specs.Agrees.{Belongs, MayTurn}
@@ -125,12 +125,10 @@ pub record CutFrom {C : Type 0} (from : ℕ) (apply : Applies C) (old new : Rank
   pub alone : AllByRecursion (λ entry. other_end entry ≡ from) cut.taken
   pub one : length cut.taken ≤ 1
 
--- nothing was taken from a rank, and no miss was counted there; its link is unchanged, and whether the post serves it
+-- nothing was taken from a rank, and no miss was counted there
 pub record NotLookedAt (here from : ℕ) (old new : PostState) : Type 0 where
   pub taken : batches_taken from (new.log here) ≡ batches_taken from (old.log here)
   pub misses : new.misses from ≡ old.misses from
-  pub serves : new.serves from ≡ old.serves from
-  pub link : link_in new from here ≡ link_in old from here
 
 -- ---- the outcomes of takes, for the rank and for what the post shows
 

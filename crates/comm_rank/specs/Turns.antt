@@ -1,5 +1,5 @@
 -- What a turn of a rank does, and what turns and puts leave unchanged at the post.
-use Rattle.std.specs.Prelude.{◌≡◌, ◌⊎◌, ◌≢◌, ℕ, ◌+◌, ◌-◌, ◌^◌, ◌<◌, true, IsTrue, List, [], ◌∷◌, ◌++◌, Option, Some, None, length, min, slice_get, take}
+use Rattle.std.specs.Prelude.{◌≡◌, ◌⊎◌, ◌≢◌, ℕ, ◌+◌, ◌-◌, ◌^◌, ◌<◌, true, List, [], ◌∷◌, ◌++◌, Option, Some, None, length, min, slice_get, take}
 use Rattle.std.specs.List.{AllByRecursion, AllPairs, filter}
 use Rattle.msg_codec.specs.Control.{is_control}
 use Rattle.msg_codec.specs.declared.letter.Letter.{Letter}
@@ -7,7 +7,7 @@ use Rattle.world_core.specs.declared.entry.Entry.{Entry}
 use Rattle.world_core.specs.declared.entry.Entry.TheVariants.{Put, Took}
 use Rattle.world_core.specs.Log.{IsPut, IsTake, batches_taken, letters_taken}
 use Rattle.world_core.specs.Pairs.{for_rank, of_pair}
-use Rattle.world_core.specs.Post.{CountsNeverFall, SameFulls, SameMisses, SamePost, SameStops, ServesAll, SomeRaised, PostState, is_full_in, link_in}
+use Rattle.world_core.specs.Post.{CountsNeverFall, SameFulls, SameMisses, SamePost, SameStops, PostState}
 use Rattle.world_core.specs.Rising.{Rose}
 use Rattle.world_core.specs.Rules.{IsHonest}
 use Rattle.comm_rank.specs.declared.turn.Turn.{Turn}
@@ -111,22 +111,20 @@ pub record WasCut {C : Type 0} (apply : Applies C) (old new : Rank C) (before af
 
 -- ---- what it found at the post
 
--- It took one batch from the rank, or found none: where the post serves that rank too, the link was empty before.
+-- it took one batch from the rank, or found none
 abbrev pub LookedAt : ℕ → ℕ → PostState → PostState → Type 0
 LookedAt here from old new =
     (length (batches_taken from (new.log here)) ≡ length (batches_taken from (old.log here)) + 1)
-    ⊎ (Rose (old.misses from) (new.misses from) × (IsTrue (old.serves from) → link_in old from here ≡ []))
+    ⊎ Rose (old.misses from) (new.misses from)
 
--- The link to a rank was found full, with a closed batch for it that is still held. Where the post serves both ends,
--- the link is full.
-pub record MetFull (here to : ℕ) (held : List (List Letter)) (old new : PostState) : Type 0 where
+-- the link to a rank was found full, with a closed batch for it that is still held
+pub record MetFull (to : ℕ) (held : List (List Letter)) (old new : PostState) : Type 0 where
   pub rose : Rose (old.fulls to) (new.fulls to)
   pub some : NoneClosed held to → ⊥
-  pub full : IsTrue (old.serves to) → IsTrue (is_full_in new here to)
 
 -- no closed batch is held for a rank, or the link to it was found full
-abbrev pub NoneOrFull : ℕ → ℕ → List (List Letter) → PostState → PostState → Type 0
-NoneOrFull here to held old new = NoneClosed held to ⊎ MetFull here to held old new
+abbrev pub NoneOrFull : ℕ → List (List Letter) → PostState → PostState → Type 0
+NoneOrFull to held old new = NoneClosed held to ⊎ MetFull to held old new
 
 -- This rank, one of so many, is the lowest to which the link was found full, and a closed batch for it is still held.
 pub record IsFirstFull (ranks to : ℕ) (held : List (List Letter)) (old new : PostState) : Type 0 where
@@ -151,18 +149,17 @@ pub record HasEnded {C : Type 0} (apply : Applies C) (start : C → C) (old new 
   pub belongs : Belongs apply start new after
   pub may_turn : MayTurn new (after.log old.here)
   pub takes_from_each : (from : ℕ) → from < old.layout.ranks → LookedAt old.here from before after
-  pub puts_to_each : (to : ℕ) → to < old.layout.ranks → NoneOrFull old.here to new.held before after
+  pub puts_to_each : (to : ℕ) → to < old.layout.ranks → NoneOrFull to new.held before after
   pub full : FirstFull old.layout.ranks new.held before after turn.full
   pub none_held : turn.full ≡ None → held_letters new ≡ []
   pub stops : SameStops before after
   pub halts : after.halts ≡ before.halts
 
 -- It met the stop and did nothing: the rank is stopped and otherwise unchanged, and so are its log and who has raised the
--- stop. Where the post serves all ranks, one of them had raised it.
+-- stop.
 pub record HasHalted {C : Type 0} (old new : Rank C) (before after : PostState) : Type 0 where
   pub does_nothing : new ≡ halted old
   pub log : after.log old.here ≡ before.log old.here
-  pub raised_before : ServesAll before → SomeRaised before
   pub stops : SameStops before after
   pub halts : Rose before.halts after.halts
 

@@ -14,7 +14,7 @@ ghost use Rattle.comm_rank.specs.Fault.{IsFullAt, NeverStopped};
 ghost use Rattle.comm_rank.specs.declared.fault.CommFault.TheVariants.{CountFull};
 ghost use Rattle.comm_rank.specs.Held.{Gains};
 ghost use Rattle.comm_rank.specs.Rank.{HasSent, IsIdle, fresh_rank, halted, local_of, sent_to};
-ghost use Rattle.comm_rank.specs.Store.{AreApart, IsHeldFor};
+ghost use Rattle.comm_rank.specs.Store.{IsHeldFor};
 
 use crate::held::Held;
 use crate::waiting::Waiting;
@@ -253,18 +253,6 @@ impl<H: Handler> Comm<H> {
         ensures { result ≡ self.now.stopped }
     {
         self.stopped
-    }
-
-    /// Does nothing, and states what is always true: letters go straight to their destinations, the rank has sent no
-    /// more than it may, and what it holds for a rank is in the list of that rank.
-    pub(crate) fn holds(&self)
-        ensures direct { self.now.scheme ≡ Direct }
-        ensures within { self.now.sent_count ≤ self.now.most }
-        ensures apart { (to : ℕ) → AreApart self.now.held to }
-    {
-        let within = self.sent.count() <= self.limits.letters;
-        prove!(within);
-        self.held.holds();
     }
 
     /// Returns its handler. It takes no memory.

@@ -48,7 +48,7 @@ pub fn a_letter_that_is_sent_is_the_last_to_its_destination<H>()
 {}
 
 /// A rank that has put data letters alone may take a turn, and a turn puts data letters alone.
-#[tactic(auto, using(crate::proofs::Settled::AreRanks::may_turn_data, crate::proofs::Agrees::AfterPuts::data_gained))]
+#[tactic(auto, using(crate::proofs::Agrees::MayTurn::may_turn_data, crate::proofs::Agrees::AfterPuts::data_gained))]
 pub fn a_turn_puts_data_letters_alone<H>()
     ensures may_turn { (me : Rank H) (log : List Entry) → PutsData log → MayTurn me log }
     ensures after { (before after taken placed : List Entry) → Gained before after taken placed →

@@ -2,7 +2,6 @@
 //! destination, and those of one sender run in the order in which they were sent.
 #![tactic(auto)]
 
-mod barrier;
 mod comm;
 mod fault;
 mod handler;
@@ -14,7 +13,6 @@ mod tests;
 mod turn;
 mod waiting;
 
-pub use barrier::settle;
 pub use comm::{Comm, Finished, NotMade};
 pub use fault::CommFault;
 pub use handler::{Handler, Outbound, Outgoing};

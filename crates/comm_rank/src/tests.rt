@@ -7,7 +7,7 @@ ghost use Rattle.comm_rank.specs.Agrees.{Agrees, Belongs, PutsData};
 ghost use Rattle.comm_rank.specs.Rank.{IsSameRank, fresh_rank};
 
 mod queue_post;
-mod settling;
+mod rounds;
 
 use super::*;
 use msg_codec::{Body, Counter, LetterRef};
@@ -150,7 +150,8 @@ fn turn_of<H: Handler, P: Post>(comm: &mut Comm<H>, post: &mut P) -> Result<Turn
     comm.turn(post)
 }
 
-// All ranks of a world, and its links. What is large is in a `Vec` and a `Box`.
+// All ranks of a world, and its links. What is large is in a `Vec` and a `Box`. A rank that isn't stopped belongs to the
+// links, and has put data letters alone.
 #[derive(Drop)]
 struct Ranks<H: Handler> {
     alloc: Global,
@@ -161,22 +162,23 @@ struct Ranks<H: Handler> {
 
 impl<H: Handler> Model for Ranks<H> {
     ghost use Rattle.std.specs.Prelude.{◌≡◌, ℕ, Some, false, length, slice_get};
-    ghost use Rattle.world_core.specs.Plain.{Plain};
+    ghost use Rattle.world_core.specs.Plain.{Plain, state_of};
+    ghost use Rattle.world_core.specs.World.{log_of};
+    ghost use Rattle.comm_rank.specs.Agrees.{Belongs, PutsData};
     ghost use Rattle.comm_rank.specs.Rank.{Rank};
-    ghost use Rattle.comm_rank.specs.Settled.{IsRankOf};
 
     ghost Value = { Plain };
 
     ghost view = { λ ranks. ranks.links.value };
 
     ghost invariant = { λ ranks. (ranks.links.value.world.layout ≡ ranks.layout) × (length ranks.comms.items ≡ ranks.layout.ranks)
-        × ((rank : ℕ) (me : Rank H) → slice_get ranks.comms.items rank ≡ Some me → me.stopped ≡ false → IsRankOf H.apply H.start ranks.links.value rank me) };
+        × ((rank : ℕ) (me : Rank H) → slice_get ranks.comms.items rank ≡ Some me → (me.here ≡ rank) × (me.stopped ≡ false →
+        Belongs H.apply H.start me (state_of ranks.links.value) × PutsData (log_of ranks.links.value.world me.here))) };
 }
 
 // The ranks of a world of so many, links that hold so many batches, and limits.
 fn ranks_of(alloc: Global, ranks: u32, ring: u32, limits: Limits) -> Result<Ranks<Echo>, Fail>
-    requires ring { 1 ≤ ring }
-    requires few { limits.letters ≤ limits.batches }
+    requires { 1 ≤ ring }
 {
     let layout = Layout::new(ranks, 1)?;
     let links = PlainLinks::new(alloc, layout, Scheme::Direct, ring, limits)?;

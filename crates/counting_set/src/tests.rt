@@ -3,10 +3,10 @@ ghost use Rattle.msg_codec.specs.Limits.{max_body};
 ghost use Rattle.world_core.specs.declared.entry.Entry.{Entry};
 ghost use Rattle.world_core.specs.Plain.{state_of};
 ghost use Rattle.world_core.specs.Post.{SamePost};
+ghost use Rattle.world_core.specs.World.{log_of};
 ghost use Rattle.ygm_route.specs.declared.scheme.Scheme.TheVariants.{Direct};
-ghost use Rattle.comm_rank.specs.Agrees.{Agrees};
+ghost use Rattle.comm_rank.specs.Agrees.{Agrees, Belongs, PutsData};
 ghost use Rattle.comm_rank.specs.Rank.{IsSameRank, fresh_rank};
-ghost use Rattle.comm_rank.specs.Settled.{IsRankOf};
 ghost use Rattle.counting_set.specs.Counting.{counting_apply};
 
 use super::*;
@@ -188,9 +188,10 @@ fn rank_of<H: Handler>(
 
 // A turn of a rank, if it isn't stopped.
 fn turn_of<H: Handler>(comm: &mut Comm<H>, links: &mut PlainLinks) -> Result<Turn, Fail>
-    requires within { comm.old.here < links.old.world.layout.ranks }
-    requires ready { comm.old.stopped ≡ false → IsRankOf H.apply H.start links.old comm.old.here comm.old }
-    ensures ready { comm.new.stopped ≡ false → IsRankOf H.apply H.start links.new comm.new.here comm.new }
+    requires belongs { comm.old.stopped ≡ false → Belongs H.apply H.start comm.old (state_of links.old) }
+    requires data_alone { comm.old.stopped ≡ false → PutsData (log_of links.old.world comm.old.here) }
+    ensures belongs { comm.new.stopped ≡ false → Belongs H.apply H.start comm.new (state_of links.new) }
+    ensures data_alone { comm.new.stopped ≡ false → PutsData (log_of links.new.world comm.new.here) }
     ensures here { comm.new.here ≡ comm.old.here }
     ensures same { SamePost comm.old.here (state_of links.old) (state_of links.new) }
 {
@@ -226,8 +227,9 @@ struct Pair {
 
 impl Model for Pair {
     ghost use Rattle.std.specs.Prelude.{◌≡◌, [], false};
-    ghost use Rattle.world_core.specs.Plain.{Plain};
-    ghost use Rattle.comm_rank.specs.Settled.{IsRankOf};
+    ghost use Rattle.world_core.specs.Plain.{Plain, state_of};
+    ghost use Rattle.world_core.specs.World.{log_of};
+    ghost use Rattle.comm_rank.specs.Agrees.{Belongs, PutsData};
     ghost use Rattle.counting_set.specs.Counting.{counting_apply};
 
     ghost Value = { Plain };
@@ -235,8 +237,10 @@ impl Model for Pair {
     ghost view = { λ pair. pair.links };
 
     ghost invariant = { λ pair. (pair.near.here ≡ 0) × (pair.far.here ≡ 1) × (pair.links.world.layout.ranks ≡ 2)
-        × (pair.near.stopped ≡ false → IsRankOf counting_apply (λ _. []) pair.links 0 pair.near)
-        × (pair.far.stopped ≡ false → IsRankOf counting_apply (λ _. []) pair.links 1 pair.far) };
+        × (pair.near.stopped ≡ false → Belongs counting_apply (λ _. []) pair.near (state_of pair.links))
+        × (pair.near.stopped ≡ false → PutsData (log_of pair.links.world 0))
+        × (pair.far.stopped ≡ false → Belongs counting_apply (λ _. []) pair.far (state_of pair.links))
+        × (pair.far.stopped ≡ false → PutsData (log_of pair.links.world 1)) };
 }
 
 impl Pair {

@@ -52,9 +52,13 @@ pub item_at_end : {X : Type 0} (xs : List X) (y : X) (rest : List X) → slice_g
 item_at_end [] y rest = refl
 item_at_end (x ∷ xs) y rest = item_at_end xs y rest
 
--- what holds at each place of a list and of one element more
+-- what holds at each place of a list, and at that of one element more
+pub each_place_more : {X : Type 0} (P : ℕ → X → Type 0) (xs : List X) (new : X) → ((k : ℕ) (x : X) → slice_get xs k ≡ Some x → P k x) → P (length xs) new →
+    (k : ℕ) (x : X) → slice_get (xs ++ new ∷ []) k ≡ Some x → P k x
+each_place_more P [] new each new_too zero x at = let e : new ≡ x = cc in subst (P 0) e new_too
+each_place_more P [] new each new_too (suc k) x at = absurd cc
+each_place_more P (y ∷ ys) new each new_too zero x at = each zero x at
+each_place_more P (y ∷ ys) new each new_too (suc k) x at = each_place_more (λ j. P (suc j)) ys new (λ j z there. each (suc j) z there) new_too k x at
+
 pub each_item_more : {X : Type 0} (P : X → Type 0) (xs : List X) (new : X) → ((k : ℕ) (x : X) → slice_get xs k ≡ Some x → P x) → P new → (k : ℕ) (x : X) → slice_get (xs ++ new ∷ []) k ≡ Some x → P x
-each_item_more P [] new each new_too zero x at = let e : new ≡ x = cc in subst P e new_too
-each_item_more P [] new each new_too (suc k) x at = absurd cc
-each_item_more P (y ∷ ys) new each new_too zero x at = each zero x at
-each_item_more P (y ∷ ys) new each new_too (suc k) x at = each_item_more P ys new (λ j z there. each (suc j) z there) new_too k x at
+each_item_more P xs new each new_too = each_place_more (λ k. P) xs new each new_too

@@ -18,9 +18,8 @@ use Rattle.comm_rank.specs.declared.turn.Turn.{Turn}
 use Rattle.comm_rank.specs.Agrees.{Belongs, MayTurn}
 use Rattle.comm_rank.specs.Fault.{IfStopped, UnlessStopped}
 use Rattle.comm_rank.specs.Fold.{Applies}
-use Rattle.comm_rank.specs.Held.{NoneClosed}
 use Rattle.comm_rank.specs.Rank.{IsSameRank, Rank, handed, held_letters, local_of, sent_to}
-use Rattle.comm_rank.specs.Turns.{Advanced, HasFailed, HasHalted, KeepsPost, LookedAt, PutsKeep, Turned}
+use Rattle.comm_rank.specs.Turns.{Advanced, HasFailed, HasHalted, KeepsPost, LookedAt, NoneOrFull, PutsKeep, Turned}
 use Rattle.term_barrier.specs.declared.polled.Polled.{Polled}
 use Rattle.term_barrier.specs.declared.polled.Polled.TheVariants.{Left, Waiting as Waits}
 use Rattle.term_barrier.specs.declared.polled.Waiting.{Waiting}
@@ -183,7 +182,7 @@ pub record PollEnded {C : Type 0} (apply : Applies C) (start : C → C) (old new
   pub answers : IsAnswer old new (local_of me (after.log one.here)) before after turn answer
   pub puts_due : new.inside ≡ true → PutsDue (held_letters me) new before after
   pub takes_from_each : (from : ℕ) → from < one.layout.ranks → LookedAt one.here from before after
-  pub puts_to_each : (to : ℕ) → to < one.layout.ranks → NoneClosed me.held to ⊎ Rose (before.fulls to) (after.fulls to)
+  pub puts_to_each : (to : ℕ) → to < one.layout.ranks → NoneOrFull to me.held before after
   pub stops : SameStops before after
   pub halts : after.halts ≡ before.halts
 

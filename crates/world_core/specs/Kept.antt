@@ -72,9 +72,8 @@ pub record AreLinks (world : Logs) (n : ℕ) (batches : List (List (List Letter)
   pub counted : (from to : ℕ) → from < n → to < n → slice_index_or carried (from * n + to) 0 ≡ length (batches_put to (log_of world from))
 
 -- what plain links keep
-pub record IsPost (world : Logs) (n ring : ℕ) (kept : List Kept) (raised : List Bool) (fulls misses : List ℕ) : Type 0 where
+pub record IsPost (world : Logs) (n : ℕ) (kept : List Kept) (raised : List Bool) (fulls misses : List ℕ) : Type 0 where
   pub links : AreLinks world n (batches_in kept) (carried_by kept)
-  pub room : 1 ≤ ring
   pub flags : length raised ≡ n
   pub full_counts : length fulls ≡ n
   pub miss_counts : length misses ≡ n

@@ -1,5 +1,5 @@
 -- The outcomes of calls of plain links: those of any post, and what these links show in addition.
-use Rattle.std.specs.Prelude.{◌≡◌, ℕ, true, false, List, [], ◌∷◌, ◌++◌}
+use Rattle.std.specs.Prelude.{◌≡◌, ℕ, ◌<◌, true, false, List, [], ◌∷◌, ◌++◌}
 use Rattle.msg_codec.specs.declared.letter.Letter.{Letter}
 use Rattle.world_core.specs.Plain.{Plain, is_full, state_of}
 use Rattle.world_core.specs.Post.{PutDone, PutFoundFull, PutHadNoMemory, SawStop, TookBatch, TookNone}
@@ -34,7 +34,8 @@ pub record LinkWasEmpty (here from : ℕ) (old new : Plain) : Type 0 where
   pub empty : link old.world from here ≡ []
   pub count : (state_of new).misses from ≡ next_count ((state_of old).misses from)
 
--- the stop was raised, and the count of halts has one more
+-- some rank had raised the stop, and the count of halts has one more
 pub record StopWasRaised (old new : Plain) : Type 0 where
   pub post : SawStop (state_of old) (state_of new)
+  pub raised : (rank : ℕ) × (rank < old.world.layout.ranks) × ((state_of old).raised rank ≡ true)
   pub count : (state_of new).halts ≡ next_count (state_of old).halts

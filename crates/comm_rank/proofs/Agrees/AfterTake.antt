@@ -1,9 +1,7 @@
 -- A rank takes a batch, and runs its letters.
-use Rattle.std.proofs.Common.{◌≡◌, ◌≢◌, ℕ, ◌+◌, ◌≤◌, true, false, nat_eq, eq-eqb, ne_eqb, List, [], ◌∷◌, ◌++◌, length, drop, refl, sym, ap, ◌∙◌, subst, inl, inr, arith, append-nil, append_assoc, length-append, if◌then◌else◌}
-use Rattle.std.specs.Bool.{IsTrue}
+use Rattle.std.proofs.Common.{◌≡◌, ◌≢◌, ℕ, ◌+◌, ◌≤◌, true, false, nat_eq, eq-eqb, ne_eqb, List, [], ◌∷◌, ◌++◌, length, refl, sym, ap, ◌∙◌, subst, inl, inr, arith, append-nil, append_assoc, length-append, if◌then◌else◌}
 use Rattle.std.specs.List.{AllByRecursion, filter}
 use Rattle.msg_codec.specs.Control.{is_control}
-use Rattle.std.proofs.lemmas.Bool.{cases_eq}
 use Rattle.std.proofs.lemmas.List.{nil_from_length}
 use Rattle.std.proofs.lemmas.List.Elements.{filter-append}
 use Rattle.msg_codec.specs.declared.letter.Letter.{Letter}
@@ -14,17 +12,17 @@ use Rattle.world_core.specs.declared.entry.Entry.{Entry}
 use Rattle.world_core.specs.declared.entry.Entry.TheVariants.{Put, Took}
 use Rattle.world_core.specs.Limits.{most_arrived}
 use Rattle.world_core.specs.Local.{Local, to_forward}
-use Rattle.world_core.specs.Log.{batches_put, batches_taken, letters_taken}
+use Rattle.world_core.specs.Log.{batches_taken, letters_taken}
 use Rattle.world_core.specs.Modest.{IsModest}
 use Rattle.world_core.specs.Pairs.{arrived, for_rank, is_of_pair, of_pair, of_sender, own_count, pair_put, sent_number}
-use Rattle.world_core.specs.Post.{MissesRise, SamePost, PostState, TookBatch, link_in, local_at}
+use Rattle.world_core.specs.Post.{SamePost, PostState, TookBatch, local_at}
 use Rattle.world_core.specs.Rules.{IsHonest}
 use Rattle.world_core.specs.ControlRules.{is_free}
 use Rattle.world_core.proofs.Counts.StaysFree.{free_took, stays_free}
 use Rattle.world_core.proofs.Deeds.Honest.{honest_more}
 use Rattle.world_core.proofs.Pairs.Appended.{pair_put-took}
 use Rattle.world_core.proofs.Pairs.Numbers.{own_count-took, run_number-is, sent_number-is, sent_number-nil}
-use Rattle.world_core.proofs.Log.Appended.{batches_put-took, batches_taken-took, letters_taken-took}
+use Rattle.world_core.proofs.Log.Appended.{batches_taken-took, letters_taken-took}
 use Rattle.list_facts.specs.Prefix.{IsSuffix}
 use Rattle.list_facts.specs.Sublist.{IsSublist}
 use Rattle.comm_rank.specs.Agrees.{Agrees, Belongs, IsServed, MayTurn}
@@ -34,7 +32,7 @@ use Rattle.comm_rank.specs.Rank.{Rank, IsSameRank, handed, held_letters, local_o
 use Rattle.comm_rank.specs.declared.fault.CommFault.{CommFault}
 use Rattle.comm_rank.specs.declared.fault.CommFault.TheVariants.{NoMemory}
 use Rattle.comm_rank.specs.Running.{CutFrom, HasRunAll, IsControl, IsFor, NotLookedAt, StuckIn, TookFrom, WasCutFrom, begins_with_control, for_handlers}
-use Rattle.comm_rank.specs.Turns.{Advanced, LookedAt}
+use Rattle.comm_rank.specs.Turns.{Advanced}
 use Rattle.list_facts.proofs.Sublist.{sublist_append}
 use Rattle.comm_rank.proofs.Agrees.Served.{served_more, suffix_longer}
 use Rattle.comm_rank.proofs.Agrees.Arrived.{Brings, arrived-took, brings, for_all, forward_same, is_read, its_controls, none_of_others, own_number, ran_all, ran_is}
@@ -346,38 +344,12 @@ honest_on me old log after same keeps h =
     let to_me : IsHonest (local_of me (log me.here)) = subst IsHonest (local_is old me (log me.here) same) (subst (P log) (sym same.here) h) in
     subst (P after) same.here (subst IsHonest (sym (local_is old me (after me.here) same)) (keeps to_me))
 
--- ---- the links of the others
-
-pub link_unchanged : (here from other : ℕ) (batch : List Letter) (old new : PostState) → new.log here ≡ old.log here ++ Took from batch ∷ [] → other ≢ from → SamePost here old new → link_in new other here ≡ link_in old other here
-link_unchanged here from other batch old new gained ne same =
-    let taken : batches_taken other (new.log here) ≡ batches_taken other (old.log here) = taken_other from other batch (old.log here) (new.log here) gained ne in
-    let put : batches_put here (new.log other) ≡ batches_put here (old.log other) = elim (cases_eq other here) [
-      | inl e ↦
-          let P : ℕ → Type 0 = λ r. batches_put here (new.log r) ≡ batches_put here (old.log r) in
-          subst P (sym e) (ap (batches_put here) gained ∙ batches_put-took (old.log here) from here batch)
-      | inr apart ↦ ap (batches_put here) (same.other_logs other apart)
-    ] in
-    ap (λ bs. drop (length bs) (batches_put here (new.log other))) taken ∙ ap (λ bs. drop (length (batches_taken other (old.log here))) bs) put
+-- ---- the other ranks
 
 pub same_log : (was here : ℕ) (old new : PostState) → was ≡ here → SamePost was old new → SamePost here old new
 same_log was here old new e same = subst (λ h. SamePost h old new) e same
 
-pub not_looked_none : (was here other : ℕ) (old new : PostState) → was ≡ here → new.log was ≡ old.log was → SamePost was old new → new.misses other ≡ old.misses other → NotLookedAt here other old new
-not_looked_none was here other old new e log same misses =
+pub not_looked_none : (was here other : ℕ) (old new : PostState) → was ≡ here → new.log was ≡ old.log was → new.misses other ≡ old.misses other → NotLookedAt here other old new
+not_looked_none was here other old new e log misses =
     let P : ℕ → Type 0 = λ h. new.log h ≡ old.log h in
-    let now : P here = subst P e log in
-    let put : new.log other ≡ old.log other = elim (cases_eq other here) [
-      | inl f ↦ subst P (sym f) now
-      | inr apart ↦ same.other_logs other (λ f. apart (f ∙ e))
-    ] in
-    record {
-      taken = ap (batches_taken other) now;
-      misses = misses;
-      serves = same.serves other;
-      link = ap (λ log. drop (length (batches_taken other log)) (batches_put here (new.log other))) now ∙ ap (λ log. drop (length (batches_taken other (old.log here))) (batches_put here log)) put;
-    }
-
-pub looked_none : (was here from : ℕ) (old new : PostState) → was ≡ here → MissesRise from old new → (IsTrue (old.serves from) → link_in old from was ≡ []) → LookedAt here from old new
-looked_none was here from old new e misses none =
-    let P : ℕ → Type 0 = λ h. link_in old from h ≡ [] in
-    inr (misses.rose, λ s. subst P e (none s))
+    record { taken = ap (batches_taken other) (subst P e log); misses = misses }

@@ -1,5 +1,6 @@
--- A rank that has sent and run nothing agrees with an empty log.
-use Rattle.std.proofs.Common.{◌≡◌, ℕ, zero, suc, [], replicate, refl, sym, ap, ◌∙◌, arith}
+-- A rank that has sent and run nothing agrees with an empty log, and belongs to new links.
+use Rattle.std.proofs.Common.{◌≡◌, ℕ, zero, suc, ◌<◌, [], replicate, refl, sym, ap, ◌∙◌, subst, lt-ltb, arith}
+use Rattle.std.proofs.lemmas.List.{get_or-replicate}
 use Rattle.ygm_route.specs.declared.scheme.Scheme.{Scheme}
 use Rattle.ygm_route.specs.declared.scheme.Scheme.TheVariants.{Direct}
 use Rattle.ygm_route.specs.Layout.{Shape}
@@ -8,11 +9,13 @@ use Rattle.world_core.specs.Log.{letters_of}
 use Rattle.world_core.specs.Counts.{count_taken}
 use Rattle.world_core.specs.Modest.{AreInTurn, IsModest}
 use Rattle.world_core.specs.Pairs.{of_pair, sent_number}
+use Rattle.world_core.specs.Plain.{fresh_links, state_of}
+use Rattle.world_core.specs.World.{log_of}
 use Rattle.world_core.proofs.Pairs.Numbers.{run_number-nil, sent_number-nil}
 use Rattle.list_facts.proofs.Prefix.{suffix_refl}
 use Rattle.list_facts.proofs.Sublist.{sublist_nil}
 use Rattle.list_facts.proofs.Sums.{sum_upto-zero}
-use Rattle.comm_rank.specs.Agrees.{Agrees}
+use Rattle.comm_rank.specs.Agrees.{Agrees, Belongs}
 use Rattle.comm_rank.specs.Fold.{Applies}
 use Rattle.comm_rank.specs.Rank.{fresh_rank}
 use Rattle.comm_rank.proofs.Agrees.Direct.{nothing_to_forward}
@@ -49,3 +52,17 @@ agrees_fresh apply start layout scheme here most contents direct fresh =
       controls = suffix_refl [];
       served = λ q to some. absurd (omega (arith, some));
     }
+
+-- ---- at new links
+
+module _ {C : Type 0} (apply : Applies C) (start : C → C) (layout : Shape) (most ring batches : ℕ) (contents : C) (fresh : start contents ≡ contents) (rank : ℕ) (within : rank < layout.ranks) where
+  pub none_new : log_of (fresh_links layout Direct ring batches).world rank ≡ []
+  none_new = get_or-replicate layout.ranks rank [] [] within
+
+  pub belongs_new : Belongs apply start (fresh_rank layout Direct rank most contents) (state_of (fresh_links layout Direct ring batches))
+  belongs_new = record {
+    serves = lt-ltb _ _ within;
+    layout = refl;
+    scheme = refl;
+    agrees = subst (Agrees apply start (fresh_rank layout Direct rank most contents)) (sym none_new) (agrees_fresh apply start layout Direct rank most contents refl fresh);
+  }

@@ -241,10 +241,10 @@ pub count_of_one : (b : Bool) → b ≡ true → put_count b ≡ 1
 count_of_one true h = refl
 count_of_one false h = absurd cc
 
-pub puts_one : (b : Bool) (here to : ℕ) (before after : List (List Letter)) (old new : PostState) → b ≡ true → PutsOne b here to before after old new →
+pub puts_one : (b : Bool) (to : ℕ) (before after : List (List Letter)) (old new : PostState) → b ≡ true → PutsOne b to before after old new →
     (length (held_for before to) ≡ length (held_for after to) + 1) × SameFulls old new
-puts_one true here to before after old new h k = k
-puts_one false here to before after old new h k = absurd cc
+puts_one true to before after old new h k = k
+puts_one false to before after old new h k = absurd cc
 
 pub others_then : (to : ℕ) (a b c : List (List Letter)) → OthersUnchanged to a b → OthersUnchanged to b c → OthersUnchanged to a c
 others_then to a b c first later = record { all = later.all ∙ first.all; others = λ other differs. later.others other differs ∙ first.others other differs }
@@ -258,15 +258,11 @@ pub had_no_memory : {P : Type 0} (back : PutBack) (batch : List Letter) → back
 had_no_memory {P} back batch is h = let Q : PutBack → Type 0 = λ b. IfNoMemory (Err b) P in subst Q is h
 
 -- no link was found full before this one
-pub found_full_at_last : (b : Bool) (here to : ℕ) (before after : List (List Letter)) (old mid new : PostState) → b ≡ false → ((rank : ℕ) → mid.serves rank ≡ old.serves rank) → SameFulls old mid →
-    PutsOne b here to before after mid new → MetFull here to after old new × FullsRise to old new
-found_full_at_last true here to before after old mid new is serves fulls one = absurd cc
-found_full_at_last false here to before after old mid new is serves fulls one = (
-  record {
-    rose = subst (λ n. Rose n (new.fulls to)) (fulls to) one.0.rose;
-    some = one.0.some;
-    full = λ served. one.0.full (serves to ∙ served);
-  },
+pub found_full_at_last : (b : Bool) (to : ℕ) (before after : List (List Letter)) (old mid new : PostState) → b ≡ false → SameFulls old mid →
+    PutsOne b to before after mid new → MetFull to after old new × FullsRise to old new
+found_full_at_last true to before after old mid new is fulls one = absurd cc
+found_full_at_last false to before after old mid new is fulls one = (
+  record { rose = subst (λ n. Rose n (new.fulls to)) (fulls to) one.0.rose; some = one.0.some },
   record {
     rose = subst (λ n. Rose n (new.fulls to)) (fulls to) one.1.rose;
     never_falls = omega (arith, one.1.never_falls, fulls to);

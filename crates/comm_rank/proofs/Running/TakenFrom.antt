@@ -1,5 +1,5 @@
 -- What a take from one rank does to a rank that belongs to the post.
-use Rattle.std.proofs.Common.{◌≡◌, ℕ, ◌+◌, ◌<◌, ◌≤◌, Bool, true, false, List, [], ◌++◌, length, append-nil, refl, ap, sym, ◌∙◌, subst, inl, arith}
+use Rattle.std.proofs.Common.{◌≡◌, ℕ, ◌+◌, ◌<◌, ◌≤◌, Bool, true, false, List, [], ◌++◌, length, append-nil, refl, ap, sym, ◌∙◌, subst, inl, inr, arith}
 use Rattle.std.specs.List.{AllByRecursion, filter}
 use Rattle.msg_codec.specs.Control.{is_control}
 use Rattle.msg_codec.specs.declared.letter.Letter.{Letter}
@@ -19,7 +19,7 @@ use Rattle.comm_rank.specs.Turns.{other_end}
 use Rattle.comm_rank.proofs.Agrees.Arrived.{Brings}
 use Rattle.comm_rank.proofs.Running.RunAll.{ran_none}
 use Rattle.comm_rank.proofs.Rank.Same.{belongs_still}
-use Rattle.comm_rank.proofs.Agrees.AfterTake.{Arrival, agrees_now, arrival, cut_from, few_run, honest_took, link_unchanged, looked_none, may_turn_now, not_looked_none, same_log, taken_here, taken_other, took_from}
+use Rattle.comm_rank.proofs.Agrees.AfterTake.{Arrival, agrees_now, arrival, cut_from, few_run, honest_took, may_turn_now, not_looked_none, same_log, taken_here, taken_other, took_from}
 use Rattle.comm_rank.proofs.Running.TookBelow.{took_nothing}
 
 -- the letters of a batch for handlers, by its first letter
@@ -63,8 +63,8 @@ module _ {C : Type 0} (apply : Applies C) (start : C → C) (old : Rank C) (ther
       taken = no_batch;
       belongs = belongs_still apply start old there before after keeps.same log_same belongs;
       may_turn = subst (λ log. MayTurn old log) (sym log_same) may;
-      looked = looked_none there old.here from before after e none.misses none.sees_none;
-      others = λ other ne. not_looked_none there old.here other before after e none.log keeps.same (none.misses.others other ne);
+      looked = inr none.misses.rose;
+      others = λ other ne. not_looked_none there old.here other before after e none.log (none.misses.others other ne);
     }
 
   -- ---- a batch was there
@@ -107,12 +107,7 @@ module _ {C : Type 0} (apply : Applies C) (start : C → C) (old : Rank C) (ther
               };
               may_turn = may_turn_now apply old new log now from batch run same arrived.gained brings kept ran may;
               looked = inl (taken_here from batch log now arrived.gained);
-              others = λ other ne. record {
-                taken = taken_other from other batch log now arrived.gained ne;
-                misses = took.misses other;
-                serves = keeps.same.serves other;
-                link = link_unchanged old.here from other batch before after arrived.gained ne (same_log there old.here before after e keeps.same);
-              };
+              others = λ other ne. record { taken = taken_other from other batch log now arrived.gained ne; misses = took.misses other };
             }
 
     -- a batch of data letters holds no control letter

@@ -150,12 +150,15 @@ module _ {C : Type 0} (apply : Applies C) (old mid new : Rank C) (before between
       cause = cause_on apply old mid new same.most fault second.cause;
     }
 
+pub advanced_none : {C : Type 0} (apply : Applies C) (me : Rank C) (log : List Entry) → Advanced apply me me log log []
+advanced_none apply me log = record { ran = sym (append-nil _); contents = refl; sent = λ to. sym (append-nil _); run_count = omega arith; sent_count = omega arith }
+
 pub took_nothing : {C : Type 0} (apply : Applies C) (me : Rank C) (log : List Entry) (bound : ℕ) → me.waiting ≡ [] → TookBelow bound apply me me log log 0
 took_nothing apply me log bound none = record {
   all = record {
     taken = [];
     gained = record { log = sym (append-nil log); takes = tt; in_order = λ i j d less within. absurd (omega (arith, less, within)) };
-    advanced = record { ran = sym (append-nil _); contents = refl; sent = λ to. sym (append-nil _); run_count = omega arith; sent_count = omega arith };
+    advanced = advanced_none apply me log;
     nothing_waits = none;
     controls = sym (append-nil me.controls);
     took_count = refl;
@@ -169,7 +172,7 @@ took_nothing apply me log bound none = record {
 pub looked_unchanged : (here from : ℕ) (a b c : PostState) → LookedAt here from a b → batches_taken from (c.log here) ≡ batches_taken from (b.log here) → c.misses from ≡ b.misses from → LookedAt here from a c
 looked_unchanged here from a b c looked taken misses = elim looked [
   | inl took ↦ inl (ap length taken ∙ took)
-  | inr missed ↦ inr (subst (Rose (a.misses from)) (sym misses) missed.0, missed.1)
+  | inr missed ↦ inr (subst (Rose (a.misses from)) (sym misses) missed)
 ]
 
 pub looked_later : (here from : ℕ) (a b c : PostState) → LookedAt here from a b → NotLookedAt here from b c → LookedAt here from a c
@@ -178,11 +181,11 @@ looked_later here from a b c looked not = looked_unchanged here from a b c looke
 pub looked_first : (here from : ℕ) (a b c : PostState) → NotLookedAt here from a b → LookedAt here from b c → LookedAt here from a c
 looked_first here from a b c not looked = elim looked [
   | inl took ↦ inl (took ∙ ap (λ xs. length xs + 1) not.taken)
-  | inr missed ↦ inr (subst (λ m. Rose m (c.misses from)) not.misses missed.0, λ serves. sym not.link ∙ missed.1 (not.serves ∙ serves))
+  | inr missed ↦ inr (subst (λ m. Rose m (c.misses from)) not.misses missed)
 ]
 
 pub not_looked_more : (here from : ℕ) (a b c : PostState) → NotLookedAt here from a b → NotLookedAt here from b c → NotLookedAt here from a c
-not_looked_more here from a b c first second = record { taken = second.taken ∙ first.taken; misses = second.misses ∙ first.misses; serves = second.serves ∙ first.serves; link = second.link ∙ first.link }
+not_looked_more here from a b c first second = record { taken = second.taken ∙ first.taken; misses = second.misses ∙ first.misses }
 
 pub looked_below : (here there from : ℕ) (a b c : PostState) → there ≡ here → ((k : ℕ) → k < from → LookedAt here k a b) → ((k : ℕ) → from ≤ k → NotLookedAt here k a b) →
     LookedAt there from b c → ((k : ℕ) → k ≢ from → NotLookedAt there k b c) → (k : ℕ) → k < from + 1 → LookedAt here k a c

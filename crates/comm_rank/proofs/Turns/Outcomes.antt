@@ -1,16 +1,13 @@
 -- What a turn does, from its takes and its puts.
-use Rattle.std.proofs.Common.{◌≡◌, ℕ, ◌+◌, ◌-◌, ◌^◌, min, false, is_err, Result, Ok, Err, Option, Some, None, List, [], ◌∷◌, ◌++◌, refl, sym, ap, ◌∙◌, subst, inl, inr, length, arith, append-nil}
-use Rattle.std.specs.Bool.{IsTrue}
+use Rattle.std.proofs.Common.{◌≡◌, ℕ, ◌+◌, ◌-◌, ◌^◌, min, false, is_err, Result, Ok, Err, Option, Some, None, List, [], ◌++◌, refl, sym, ap, ◌∙◌, subst, inl, inr, length, arith, append-nil}
 use Rattle.std.specs.List.{AllByRecursion}
 use Rattle.std.specs.Result.{IfOk}
 use Rattle.std.proofs.lemmas.Bool.{cases_eq, false≢true}
-use Rattle.std.proofs.lemmas.List.Elements.{filter_map-append}
 use Rattle.msg_codec.specs.declared.letter.Letter.{Letter}
 use Rattle.world_core.specs.declared.entry.Entry.{Entry}
-use Rattle.world_core.specs.declared.entry.Entry.TheVariants.{Put, Took}
-use Rattle.world_core.specs.Log.{IsPut, batches_taken, letters_taken, link_between, took_from}
+use Rattle.world_core.specs.Log.{IsPut, batches_taken, letters_taken}
 use Rattle.world_core.specs.Pairs.{for_rank, of_pair}
-use Rattle.world_core.specs.Post.{LookKeeps, SameFulls, SameMisses, PostState, is_full_in, link_in}
+use Rattle.world_core.specs.Post.{LookKeeps, SameFulls, SameMisses, PostState}
 use Rattle.world_core.specs.Rising.{Rose}
 use Rattle.comm_rank.specs.Agrees.{PutsData}
 use Rattle.comm_rank.specs.declared.fault.CommFault.{CommFault}
@@ -21,17 +18,8 @@ use Rattle.comm_rank.specs.Moves.{PutOut}
 use Rattle.comm_rank.specs.Rank.{Rank, halted, handed, sent_to}
 use Rattle.comm_rank.specs.Running.{TookAll}
 use Rattle.comm_rank.specs.Turns.{CutOff, FirstFull, FullAtFirst, HasEnded, IsCause, LookedAt, NoneOrFull, Turned, WasCut}
-use Rattle.comm_rank.proofs.Agrees.AfterPuts.{data_gained}
+use Rattle.comm_rank.proofs.Agrees.AfterPuts.{data_gained, same_batches_taken}
 use Rattle.comm_rank.proofs.Turns.Faults.{if_full}
-
-none_taken : (from : ℕ) (placed : List Entry) → AllByRecursion IsPut placed → batches_taken from placed ≡ []
-none_taken from [] h = refl
-none_taken from (Put to letters ∷ placed) h = none_taken from placed h.1
-none_taken from (Took rank letters ∷ placed) h = absurd h.0
-
-pub taken_unchanged : (from : ℕ) (log after placed : List Entry) → after ≡ log ++ placed → AllByRecursion IsPut placed → batches_taken from after ≡ batches_taken from log
-taken_unchanged from log after placed is puts =
-    ap (batches_taken from) is ∙ filter_map-append (took_from from) log placed ∙ ap (λ xs. batches_taken from log ++ xs) (none_taken from placed puts) ∙ append-nil (batches_taken from log)
 
 module _ {C : Type 0} (apply : Applies C) (old mid new : Rank C) (before between after : List Entry) (took : ℕ) (first : TookAll apply old mid before between took) (placed : List Entry) (out : PutOut mid new between after placed) where
   whole_log : after ≡ (before ++ first.taken) ++ placed
@@ -84,14 +72,13 @@ module _ {C : Type 0} (apply : Applies C) (old mid new : Rank C) (before between
 -- ---- at the post
 
 -- the rank put between `b` and `c`; between `a` and `b` no link was found full
-module _ (here there : ℕ) (a b c : PostState) (same : there ≡ here) (fulls : SameFulls a b) (serves : (rank : ℕ) → b.serves rank ≡ a.serves rank) where
-  pub met_then : (to : ℕ) (held : List (List Letter)) → NoneOrFull there to held b c → NoneOrFull here to held a c
+module _ (a b c : PostState) (fulls : SameFulls a b) where
+  pub met_then : (to : ℕ) (held : List (List Letter)) → NoneOrFull to held b c → NoneOrFull to held a c
   met_then to held met = elim met [
     | inl none ↦ inl none
     | inr full ↦ inr (record {
       rose = subst (λ n. Rose n (c.fulls to)) (fulls to) full.rose;
       some = full.some;
-      full = λ served. subst (λ h. IsTrue (is_full_in c h to)) same (full.full (subst IsTrue (sym (serves to)) served));
     })
   ]
 
@@ -109,8 +96,8 @@ pub looked_then : (here there : ℕ) (a b c : PostState) → there ≡ here → 
 looked_then here there a b c same misses placed log puts from looked =
     let P : ℕ → Type 0 = λ h. c.log h ≡ b.log h ++ placed in
     elim looked [
-      | inl took ↦ inl (ap length (taken_unchanged from (b.log here) (c.log here) placed (subst P same log) puts) ∙ took)
-      | inr missed ↦ inr (subst (Rose (a.misses from)) (sym (misses from)) missed.0, missed.1)
+      | inl took ↦ inl (ap (λ xs. length (batches_taken from xs)) (subst P same log) ∙ ap length (same_batches_taken from placed (b.log here) puts) ∙ took)
+      | inr missed ↦ inr (subst (Rose (a.misses from)) (sym (misses from)) missed)
     ]
 
 -- ---- a turn that failed: the rank is stopped, and raising the stop leaves its log unchanged
@@ -165,10 +152,7 @@ module _ {C : Type 0} (apply : Applies C) (start : C → C) (old new : Rank C) (
   looked_since : (from : ℕ) → LookedAt old.here from looked after → LookedAt old.here from before after
   looked_since from found = elim found [
     | inl took ↦ inl (took ∙ ap (λ log. length (batches_taken from log) + 1) (look_logs old.here))
-    | inr missed ↦
-        let link : link_in looked from old.here ≡ link_in before from old.here =
-        ap (λ log. link_between from old.here log (looked.log old.here)) (look_logs from) ∙ ap (λ log. link_between from old.here (before.log from) log) (look_logs old.here) in
-        inr (subst (λ n. Rose n (after.misses from)) (keeps.misses from) missed.0, λ served. sym link ∙ missed.1 (keeps.same.serves from ∙ served))
+    | inr missed ↦ inr (subst (λ n. Rose n (after.misses from)) (keeps.misses from) missed)
   ]
 
   pub ended_since : looked.halts ≡ before.halts → (turn : Turn) → HasEnded apply start old new looked after turn → HasEnded apply start old new before after turn
@@ -177,8 +161,8 @@ module _ {C : Type 0} (apply : Applies C) (start : C → C) (old new : Rank C) (
     belongs = e.belongs;
     may_turn = e.may_turn;
     takes_from_each = λ from within. looked_since from (e.takes_from_each from within);
-    puts_to_each = λ to within. met_then old.here old.here before looked after refl keeps.fulls keeps.same.serves to new.held (e.puts_to_each to within);
-    full = full_then old.here old.here before looked after refl keeps.fulls keeps.same.serves old.layout.ranks old.layout.ranks refl new.held turn.full e.full;
+    puts_to_each = λ to within. met_then before looked after keeps.fulls to new.held (e.puts_to_each to within);
+    full = full_then before looked after keeps.fulls old.layout.ranks old.layout.ranks refl new.held turn.full e.full;
     none_held = e.none_held;
     stops = λ rank. e.stops rank ∙ keeps.stops rank;
     halts = e.halts ∙ halts;

@@ -12,7 +12,7 @@ use Rattle.world_core.specs.Post.{PostState}
 use Rattle.comm_rank.specs.Agrees.{Agrees, Belongs, MayTurn}
 use Rattle.comm_rank.specs.Fold.{Applies}
 use Rattle.comm_rank.specs.Rank.{HasSent, Rank, fresh_rank, held_letters, local_of}
-use Rattle.comm_rank.proofs.Settled.AreRanks.{may_turn_data}
+use Rattle.comm_rank.proofs.Agrees.MayTurn.{may_turn_data}
 use Rattle.term_barrier.specs.Account.{handler_of, with_more}
 use Rattle.term_barrier.specs.Barriers.{BarrierAgrees, BarrierState, fresh_barrier}
 use Rattle.term_barrier.specs.Carried.{Carries, Phases, own_cuts}

@@ -94,7 +94,10 @@ module _ {C : Type 0} (apply : Applies C) (start : C → C) (barrier : BarrierSt
       takes_from_each = looked_at_each;
       puts_to_each = λ to within. elim (ended.puts_to_each to within) [
         | inl none ↦ inl (subst (λ held. NoneClosed held to) same_lists none)
-        | inr met ↦ inr (omega (arith, met.rose, then.keeps.counts.fulls to))
+        | inr met ↦ inr (record {
+          rose = omega (arith, met.rose, then.keeps.counts.fulls to);
+          some = λ none. met.some (subst (λ held. NoneClosed held to) (sym same_lists) none);
+        })
       ];
       stops = λ rank. then.keeps.stops rank ∙ ended.stops rank;
       halts = then.keeps.halts ∙ ended.halts;

@@ -49,7 +49,7 @@ module _ {C : Type 0} (apply : Applies C) (start : C → C) (one mid : Rank C) (
         let still : batches_taken from (looked.log one.here) ≡ batches_taken from (before.log one.here) =
         ap (batches_taken from) log ∙ same_batches_taken from ended.turned.placed (before.log one.here) ended.turned.gained.puts in
         absurd (omega (arith, some, ap length still))
-    | inr none ↦ subst (Rose (before.misses from)) (sym (keeps.misses from)) none.0
+    | inr none ↦ subst (Rose (before.misses from)) (sym (keeps.misses from)) none
   ]
 
   first_full : (to : ℕ) → turn.full ≡ Some to → IsFirstFull one.layout.ranks to mid.held before looked

@@ -8,8 +8,7 @@ use Rattle.comm_rank.specs.Fold.{Applies}
 use Rattle.comm_rank.specs.Rank.{Rank, Worked, local_of}
 use Rattle.comm_rank.specs.Turns.{Advanced, KeepsPost}
 use Rattle.comm_rank.proofs.Rank.Same.{same_rank_more, same_rank_none, worked_same}
-use Rattle.comm_rank.proofs.Running.TookBelow.{advanced_more}
-use Rattle.comm_rank.proofs.Settled.Advanced.{advanced_none}
+use Rattle.comm_rank.proofs.Running.TookBelow.{advanced_more, advanced_none}
 use Rattle.term_barrier.specs.declared.polled.Polled.{Polled}
 use Rattle.term_barrier.specs.declared.polled.Polled.TheVariants.{Left, Waiting as Waits}
 use Rattle.term_barrier.specs.declared.polled.Waiting.{Waiting}

@@ -31,23 +31,22 @@ loop-to-preserved g c =
     let i = c.loop-to.invariant in
     let full = c.in_ok-placed.placed.full in
     let until = p.until in
-    let serves = i.moved.keeps.same.serves in
     let others = c.put_to.ensures.others in
-    let Q : Bool → Type 0 = λ t. PutUntil t here to b mid new in
+    let Q : Bool → Type 0 = λ t. PutUntil t to b mid new in
     let first : FirstFull c.args.ranks b old new c.if-placed.full × Below (to + 1) c.if-placed.full = elim c.if-placed.branch [
-      | then-placed w ↦ first_next_full here to a b old mid new p.placed serves p.moved others i.later c.args.ranks c.loop-to.full c.if-placed.full c.loop-to-test.true (subst Q w.if-placed.true until) i.first i.below (w.full-is ∙ w.or-full.ensures)
-      | else-placed w ↦ first_next here to a b old mid new p.placed serves p.moved others i.later c.args.ranks c.loop-to.full c.if-placed.full (subst Q w.if-placed.false until) i.first i.below w.full-is
+      | then-placed w ↦ first_next_full to a b old mid new others i.later c.args.ranks c.loop-to.full c.if-placed.full c.loop-to-test.true (subst Q w.if-placed.true until) i.first i.below (w.full-is ∙ w.or-full.ensures)
+      | else-placed w ↦ first_next to a b old mid new others i.later c.args.ranks c.loop-to.full c.if-placed.full (subst Q w.if-placed.false until) i.first i.below w.full-is
     ] in
     record {
       placed = i.placed ++ p.placed;
       moved = moved_then here c.args.held.now.lists a b old mid new i.placed p.placed i.moved p.moved;
       count = omega (arith, c.saturating_add-put.ensures, i.count, p.count, length-append i.placed p.placed);
-      done = none_or_full_next here to a b old mid new p.placed serves p.moved others i.later full until i.done;
-      later = later_next here to a b old mid new p.placed serves p.moved others i.later full until;
+      done = none_or_full_next to a b old mid new others i.later full until i.done;
+      later = later_next to a b old mid new others i.later full until;
       first = first.0;
       below = first.1;
       none = elim c.if-placed.branch [
         | then-placed w ↦ λ is. absurd (some_full c.loop-to.full to (sym (w.full-is ∙ w.or-full.ensures) ∙ is))
-        | else-placed w ↦ λ is. none_next here to a b old mid new p.placed serves p.moved others i.later (subst Q w.if-placed.false until) (i.none (sym w.full-is ∙ is))
+        | else-placed w ↦ λ is. none_next to a b old mid new others i.later (subst Q w.if-placed.false until) (i.none (sym w.full-is ∙ is))
       ];
     }

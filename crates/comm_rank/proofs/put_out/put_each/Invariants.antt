@@ -12,7 +12,7 @@ invariant-loop-to g l = record {
   placed : List Entry;
   moved : Moved l.here l.fn.held.lists l.held.lists (g.P.Post.state l.fn.post) (g.P.Post.state l.post) placed;
   count : l.put ≡ min (length placed) (2 ^ 64 - 1);
-  done : (d : ℕ) → d < l.to → NoneOrFull l.here d l.held.lists (g.P.Post.state l.fn.post) (g.P.Post.state l.post);
+  done : (d : ℕ) → d < l.to → NoneOrFull d l.held.lists (g.P.Post.state l.fn.post) (g.P.Post.state l.post);
   later : (d : ℕ) → l.to ≤ d → (g.P.Post.state l.post).fulls d ≡ (g.P.Post.state l.fn.post).fulls d;
   first : FirstFull l.ranks l.held.lists (g.P.Post.state l.fn.post) (g.P.Post.state l.post) l.full;
   below : Below l.to l.full;

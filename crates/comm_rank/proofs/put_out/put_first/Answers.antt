@@ -4,7 +4,6 @@ use Rattle.world_core.specs.Post.{PutFoundFull, PutHadNoMemory, batch_back}
 use Rattle.world_core.proofs.Posts.CountsNeverFall.{after_put_done, after_put_full, after_put_no_memory}
 use Rattle.comm_rank.specs.Held.{held_for}
 use Rattle.comm_rank.specs.Moves.{Moved}
-use Rattle.comm_rank.proofs.Moves.EachRank.{full_still}
 use Rattle.comm_rank.proofs.Moves.OnePut.{found_full, given_back, had_no_memory, may_put_one, moved_none, moved_one, one_tagged, puts_keep, some_held}
 use Rattle.comm_rank.proofs.put_out.put_first.Goals as goal
 
@@ -51,7 +50,6 @@ returns-in-Err-Full-clause-put g c =
         record {
           rose = full.fulls.rose;
           some = some_held c.args.to before c.step_back.new.self.lists back c.requires.some;
-          full = λ served. full_still here c.args.to before c.step_back.new.self.lists old new [] moved (full.sees_full served);
         },
         full.fulls,
       );

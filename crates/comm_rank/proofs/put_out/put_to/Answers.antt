@@ -39,7 +39,7 @@ returns-then-not-branch-clause-put g c =
       placed = i.placed ++ p.placed;
       moved = moved_then c.args.here before c.loop-k.held.lists c.put_first.new.held.lists old mid new i.placed p.placed i.moved p.moved;
       count = omega (arith, i.count, length-append i.placed p.placed, p.count, count_of_none _ c.if-not-branch.true);
-      until = found_full_at_last c.in_ok-put_first.field-0 c.args.here c.args.to c.loop-k.held.lists c.put_first.new.held.lists old mid new c.if-not-branch.true i.moved.keeps.same.serves i.fulls p.one;
+      until = found_full_at_last c.in_ok-put_first.field-0 c.args.to c.loop-k.held.lists c.put_first.new.held.lists old mid new c.if-not-branch.true i.fulls p.one;
     }
 
 pub loop-k-preserved : goal.loop-k-preserved
@@ -50,7 +50,7 @@ loop-k-preserved g c =
     let new = g.P.Post.state c.put_first.new.post in
     let i = c.loop-k.invariant in
     let p = c.in_ok-put_first.ensures.put in
-    let one = puts_one c.in_ok-put_first.field-0 c.args.here c.args.to c.loop-k.held.lists c.put_first.new.held.lists mid new c.if-not-branch.false p.one in
+    let one = puts_one c.in_ok-put_first.field-0 c.args.to c.loop-k.held.lists c.put_first.new.held.lists mid new c.if-not-branch.false p.one in
     record {
       placed = i.placed ++ p.placed;
       moved = moved_then c.args.here before c.loop-k.held.lists c.put_first.new.held.lists old mid new i.placed p.placed i.moved p.moved;

@@ -1,5 +1,5 @@
 -- A world of one rank, what its link holds, and the state of a post that keeps this in a queue.
-use Rattle.std.proofs.Common.{◌≡◌, ◌≢◌, ℕ, zero, suc, ◌<◌, ◌≤◌, ◌^◌, nat_le, Bool, true, Some, None, List, [], ◌∷◌, ◌++◌, length, drop, get_or, slice_get, refl, sym, ap, ◌∙◌, subst, arith, ltb-true, le-leb}
+use Rattle.std.proofs.Common.{◌≡◌, ◌≢◌, ℕ, zero, suc, ◌<◌, ◌^◌, Bool, Some, None, List, [], ◌∷◌, ◌++◌, length, drop, get_or, slice_get, refl, sym, ap, ◌∙◌, subst, arith, ltb-true}
 use Rattle.std.specs.Bool.{IsTrue}
 use Rattle.msg_codec.specs.declared.letter.Letter.{Letter}
 use Rattle.world_core.specs.Rising.{next_count}
@@ -64,13 +64,11 @@ module _ (layout : Shape) (alone : layout.ranks ≡ 1) (log : List Entry) where
 
   module _ (raised : Bool) (fulls misses halts : ℕ) (here : ℕ) (served : IsTrue (is_rank layout here)) where
     pub found_full : (to : ℕ) (batch : List Letter) (now : ℕ) → first_broken (local (one layout log) here) (Puts to batch) ≡ None → fulls < 2 ^ 64 → now ≡ next_count fulls →
-        2 ≤ length (link (one layout log) 0 0) →
         PutFoundFull here to (state_of (shown layout log raised fulls misses halts)) (state_of (shown layout log raised now misses halts))
-    found_full to batch now ok few counted full =
+    found_full to batch now ok few counted =
         let P : ℕ → ℕ → Type 0 = λ h t. PutFoundFull h t (state_of (shown layout log raised fulls misses halts)) (state_of (shown layout log raised now misses halts)) in
         let at_0 : P 0 0 = record {
           log = refl;
-          sees_full = λ _. let more : nat_le 2 (length (link (one layout log) 0 0)) ≡ true = le-leb _ _ full in rw more refl;
           fulls = record { rose = omega (arith, counted); never_falls = omega (arith, counted, few); others = λ rank ne. others fulls now 0 rank 0 refl ne };
         } in
         subst (λ h. P h to) (sym (here_is here served)) (subst (P 0) (sym (to_is here to batch ok)) at_0)

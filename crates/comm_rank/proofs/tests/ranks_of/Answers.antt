@@ -1,8 +1,9 @@
 use Rattle.std.proofs.Common.{◌≡◌, ◌∙◌, ℕ, Some, List, [], ◌∷◌, ◌++◌, length, slice_get, refl, sym, subst, rules}
+use Rattle.list_facts.proofs.Places.{each_place_more}
 use Rattle.ygm_route.specs.declared.scheme.Scheme.TheVariants.{Direct}
 use Rattle.world_core.specs.Plain.{fresh_links}
 use Rattle.comm_rank.specs.Rank.{Rank, fresh_rank}
-use Rattle.comm_rank.proofs.Settled.AreRanks.{pushed, stand_new}
+use Rattle.comm_rank.proofs.tests.Standing.{all_new}
 use Rattle.comm_rank.proofs.tests.ranks_of.Goals as goal
 
 pub loop-here-preserved : goal.loop-here-preserved
@@ -14,7 +15,7 @@ loop-here-preserved c =
     let items : c.push.new.self.items ≡ before ++ new ∷ [] = search rules in
     record {
       all = search rules;
-      each = subst Each (sym items) (pushed P before new c.loop-here.invariant.each (subst (λ rank. P rank new) (sym c.loop-here.invariant.all) c.in_ok-rank_of.ensures.made));
+      each = subst Each (sym items) (each_place_more P before new c.loop-here.invariant.each (subst (λ rank. P rank new) (sym c.loop-here.invariant.all) c.in_ok-rank_of.ensures.made));
     }
 
 pub invariant_of-result : goal.invariant_of-result
@@ -24,4 +25,4 @@ invariant_of-result c =
     let batches = c.args.limits.batches in
     let all : length c.loop-here.comms.items ≡ layout.ranks = search rules in
     let links : c.in_ok-links-2.links.value ≡ fresh_links layout Direct c.args.ring batches = c.in_ok-links-2.ensures ∙ c.in_ok-links.ensures in
-    rw links (refl, all, stand_new _ _ layout most c.args.ring batches [] refl c.requires.few c.loop-here.comms.items all c.loop-here.invariant.each)
+    rw links (refl, all, all_new _ _ layout most c.args.ring batches [] c.loop-here.comms.items refl all c.loop-here.invariant.each)

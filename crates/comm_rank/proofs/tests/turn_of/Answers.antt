@@ -1,6 +1,6 @@
 use Rattle.std.proofs.Common.{ap}
 use Rattle.comm_rank.specs.Rank.{Rank}
-use Rattle.comm_rank.proofs.Settled.AreRanks.{may_turn_data}
+use Rattle.comm_rank.proofs.Agrees.MayTurn.{may_turn_data}
 use Rattle.comm_rank.proofs.Turns.Outcomes.{data_after}
 use Rattle.comm_rank.proofs.tests.turn_of.Goals as goal
 

@@ -1,7 +1,6 @@
 -- Ranks that stand at a post with their barriers: new ones, one that took a turn, and all others.
 use Rattle.std.proofs.Common.{◌≡◌, ◌≢◌, ℕ, ◌<◌, false, Some, List, [], length, get_or, set, slice_get, sym, ap, ◌∙◌, subst, inl, inr, arith}
 use Rattle.std.proofs.lemmas.Bool.{cases_eq}
-use Rattle.std.proofs.lemmas.List.{get_or-replicate}
 use Rattle.std.proofs.lemmas.Option.{slice_get-get_or, slice_get_within}
 use Rattle.list_facts.proofs.Places.{item_kept, item_set, same_item}
 use Rattle.ygm_route.specs.declared.scheme.Scheme.TheVariants.{Direct}
@@ -14,7 +13,8 @@ use Rattle.comm_rank.specs.Agrees.{MayTurn}
 use Rattle.comm_rank.specs.Fold.{Applies}
 use Rattle.comm_rank.specs.Rank.{IsSameRank, Rank, fresh_rank, local_of}
 use Rattle.comm_rank.specs.Turns.{HasEnded}
-use Rattle.comm_rank.proofs.Settled.AreRanks.{belongs_new, may_turn_data}
+use Rattle.comm_rank.proofs.Agrees.Fresh.{belongs_new, none_new}
+use Rattle.comm_rank.proofs.Agrees.MayTurn.{may_turn_data}
 use Rattle.term_barrier.specs.declared.tests.ranks.Member.{Member}
 use Rattle.term_barrier.specs.Barriers.{BarrierAgrees, BarrierState, fresh_barrier}
 use Rattle.term_barrier.specs.Polls.{Stands}
@@ -29,7 +29,7 @@ module _ {C : Type 0} (apply : Applies C) (start : C → C) where
   stands_new layout here most rounds ring batches contents fresh within =
       let me : Rank C = fresh_rank layout Direct here most contents in
       let barrier : BarrierState = fresh_barrier layout here rounds in
-      let none : log_of (fresh_links layout Direct ring batches).world here ≡ [] = get_or-replicate layout.ranks here [] [] within in
+      let none : log_of (fresh_links layout Direct ring batches).world here ≡ [] = none_new apply start layout most ring batches contents fresh here within in
       record {
         belongs = belongs_new apply start layout most ring batches contents fresh here within;
         may_turn = subst (λ log. MayTurn me log) (sym none) (may_turn_data me [] tt);

@@ -13,7 +13,7 @@ loop-from-init g c = record {
   belongs = c.requires.belongs;
   may_turn = c.requires.may_turn;
   looked = λ k none. absurd (omega (arith, none));
-  others = λ k past. record { taken = refl; misses = refl; serves = refl; link = refl };
+  others = λ k past. record { taken = refl; misses = refl };
   keeps = takes_none c.args.self.now (g.P.Post.state c.args.post.now);
   rank = refl;
   ranks = c.ranks-from-end.ensures.value;

@@ -57,8 +57,8 @@ returns-clause-ended g c =
       belongs = c.put_all.ensures.belongs;
       may_turn = (let M : ℕ → Type 0 = λ h. MayTurn new (d.log h) in subst M same.here c.put_all.ensures.may_turn);
       takes_from_each = λ from within. looked_then old.here mid.here a b d same.here puts.misses put.placed put.out.log put.out.puts from (has.takes_from_each from within);
-      puts_to_each = λ to within. met_then old.here mid.here a b d same.here takes.fulls takes.work.same.serves to new.held (put.none_or_full to (omega (arith, within, ranks)));
-      full = full_then old.here mid.here a b d same.here takes.fulls takes.work.same.serves old.layout.ranks mid.layout.ranks ranks new.held _ put.first_full;
+      puts_to_each = λ to within. met_then a b d takes.fulls to new.held (put.none_or_full to (omega (arith, within, ranks)));
+      full = full_then a b d takes.fulls old.layout.ranks mid.layout.ranks ranks new.held _ put.first_full;
       none_held = put.none_held;
       stops = λ rank. puts.stops rank ∙ takes.work.stops rank;
       halts = puts.halts ∙ takes.work.halts;

@@ -1,6 +1,8 @@
-use Rattle.std.proofs.Common.{◌≡◌, ◌<◌, ◌∙◌, Some, slice_get, length, length-set, sym, ap, rules}
+use Rattle.std.proofs.Common.{◌<◌, ◌∙◌, Some, length, length-set, sym, ap, rules}
 use Rattle.std.proofs.lemmas.Option.{slice_get-get_or}
-use Rattle.comm_rank.proofs.Settled.AreRanks.{sends, stand_set}
+use Rattle.world_core.specs.Plain.{state_of}
+use Rattle.comm_rank.proofs.Rank.Same.{same_none}
+use Rattle.comm_rank.proofs.tests.Standing.{all_set, stands_sent}
 use Rattle.comm_rank.proofs.tests.Ranks.try_send.Goals as goal
 
 pub invariant_of-self : goal.invariant_of-self
@@ -14,11 +16,9 @@ invariant_of-self g c =
     let now = c.send_by.new.comm in
     let e = c.send_by.ensures in
     let within : rank < length comms = search rules in
-    let there : slice_get comms rank ≡ Some me = slice_get-get_or comms rank me within ∙ ap Some (sym c.index_mut.ensures.value) in
-    let stand = c.self.invariant.2 in (
+    let at = c.self.invariant.2 rank me (slice_get-get_or comms rank me within ∙ ap Some (sym c.index_mut.ensures.value)) in (
       c.self.invariant.0,
       length-set comms rank now ∙ c.self.invariant.1,
-      stand_set apply start comms links links rank now within stand
-          (λ going. sends apply start links rank me now e.same e.stopped e.agrees (stand rank me there (sym e.stopped ∙ going)))
-          (λ other a ne at. at),
+      all_set apply start comms links links rank now c.self.invariant.2 (e.same.here ∙ at.0)
+          (λ going. stands_sent apply start links me now e.same e.agrees (at.1 (sym e.stopped ∙ going))) (same_none rank (state_of links)),
     )

@@ -3,7 +3,7 @@ use Rattle.ygm_route.specs.declared.scheme.Scheme.TheVariants.{Direct}
 use Rattle.ygm_route.specs.Layout.{Shape}
 use Rattle.world_core.specs.Plain.{Plain, fresh_links}
 use Rattle.comm_rank.specs.Rank.{fresh_rank}
-use Rattle.comm_rank.proofs.Settled.AreRanks.{belongs_new}
+use Rattle.comm_rank.proofs.Agrees.Fresh.{belongs_new}
 use Rattle.comm_rank.proofs.tests.queue_post.lone_of.Goals as goal
 
 pub invariant_of-result : goal.invariant_of-result

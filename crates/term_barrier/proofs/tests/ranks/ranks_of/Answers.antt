@@ -1,8 +1,8 @@
 use Rattle.std.proofs.Common.{◌≡◌, ◌∙◌, ℕ, Some, List, [], ◌∷◌, ◌++◌, length, slice_get, refl, sym, subst, rules}
+use Rattle.list_facts.proofs.Places.{each_place_more}
 use Rattle.ygm_route.specs.declared.scheme.Scheme.TheVariants.{Direct}
 use Rattle.world_core.specs.Plain.{fresh_links}
 use Rattle.comm_rank.specs.Rank.{fresh_rank}
-use Rattle.comm_rank.proofs.Settled.AreRanks.{pushed}
 use Rattle.term_barrier.specs.declared.tests.ranks.Member.{Member}
 use Rattle.term_barrier.specs.Barriers.{fresh_barrier}
 use Rattle.term_barrier.proofs.tests.ranks.Standing.{all_new}
@@ -23,7 +23,7 @@ loop-here-preserved c =
     let last = subst (λ rank. P rank new) (sym c.loop-here.invariant.all) made in
     record {
       all = search rules;
-      each = subst Each (sym items) (pushed P before new c.loop-here.invariant.each last);
+      each = subst Each (sym items) (each_place_more P before new c.loop-here.invariant.each last);
     }
 
 pub invariant_of-result : goal.invariant_of-result

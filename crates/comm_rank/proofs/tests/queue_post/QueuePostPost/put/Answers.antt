@@ -1,12 +1,12 @@
-use Rattle.std.proofs.Common.{◌≡◌, ◌<◌, ◌≤◌, ◌^◌, ◌++◌, None, deque_len, [], ◌∷◌, length, map, sym, ap, ◌∙◌, subst, arith, rules}
-use Rattle.std.proofs.lemmas.List.{length-map, map-append}
+use Rattle.std.proofs.Common.{◌≡◌, ◌<◌, ◌^◌, ◌++◌, None, [], ◌∷◌, map, sym, ap, ◌∙◌, subst, rules}
+use Rattle.std.proofs.lemmas.List.{map-append}
 use Rattle.std.specs.Bool.{IsTrue}
 use Rattle.world_core.specs.declared.entry.Entry.TheVariants.{Put}
 use Rattle.world_core.specs.Plain.{Plain, state_of}
 use Rattle.world_core.specs.Post.{PutFoundFull, local_at}
 use Rattle.world_core.specs.Rules.{first_broken}
 use Rattle.world_core.specs.Rules.Deed.{Puts}
-use Rattle.world_core.specs.World.{link, local}
+use Rattle.world_core.specs.World.{local}
 use Rattle.comm_rank.specs.declared.tests.queue_post.Parcel.{Parcel}
 use Rattle.comm_rank.proofs.tests.queue_post.Queued.{found_full, here_is, one, put_link, shown, to_is}
 use Rattle.comm_rank.proofs.tests.queue_post.QueuePostPost.put.Goals as goal
@@ -18,13 +18,11 @@ returns-then-len-ge2-clause-full c =
     let here = c.args._here in
     let served : IsTrue ((state_of (shown s.layout s.log.items s.raised s.fulls s.misses s.halts)).serves here) = subst (λ p. IsTrue ((state_of p).serves here)) (sym c.self.view_is) c.requires.serves in
     let honest = subst (λ p. first_broken (local_at (state_of p) here) (Puts c.args.to c.args.batch) ≡ None) (sym c.self.view_is) c.requires.honest in
-    let many : deque_len s.queue ≡ length s.queue.items = search rules in
-    let full : 2 ≤ length (link (one s.layout s.log.items) 0 0) = omega (arith, ap length inv.2, length-map s.queue.items (λ (p : Parcel). p.batch), many, c.len.ensures, c.if-len-ge2.true) in
     let few : s.fulls < 2 ^ 64 = search rules in
     let now = c.saturating_add-self-inside.result in
     let P : Plain → Type 0 = λ p. PutFoundFull here c.args.to (state_of p) (state_of (shown s.layout s.log.items s.raised now s.misses s.halts)) in
     subst P c.self.view_is
-    (found_full s.layout inv.0 s.log.items s.raised s.fulls s.misses s.halts here served c.args.to c.args.batch now honest few c.saturating_add-self-inside.ensures full)
+    (found_full s.layout inv.0 s.log.items s.raised s.fulls s.misses s.halts here served c.args.to c.args.batch now honest few c.saturating_add-self-inside.ensures)
 
 pub invariant_of-self-2 : goal.invariant_of-self-2
 invariant_of-self-2 c =

@@ -1,30 +1,28 @@
-ghost use Rattle.std.specs.Prelude.{◌≡◌};
-ghost use Rattle.std.specs.List.{list_any};
-
 use super::{ASK, Echo, NOTE, Ranks, TWO_LETTERS, ranks_of, same};
-use crate::{Comm, CommFault, Handler, settle};
+use crate::{CommFault, Handler};
 use std::process::Abort;
 use std::test::*;
 use world_core::Limits;
 
-fn is_any_stopped<H: Handler>(comms: &[Comm<H>]) -> bool
-    ensures { result ≡ list_any (λ comm. comm.stopped) comms.now }
-{
-    comms.iter().any(|comm| comm.is_stopped())
-}
-
 impl<H: Handler> Ranks<H> {
-    // The barrier of a rank, if no rank is stopped.
-    fn try_settle(&mut self, caller: u32) -> Result<Result<(), CommFault>, Fail> {
-        if caller as usize >= self.comms.len() || is_any_stopped(&self.comms) {
-            return Err("a barrier is of a rank of a world that goes on".into());
+    // A turn of each rank. Returns whether one took or put a batch, or found a link full.
+    fn round(&mut self) -> Result<bool, Fail> {
+        let mut moved = false;
+        for rank in 0..self.layout.ranks() {
+            let turn = self.turn(rank)?;
+            moved = moved || turn.took > 0 || turn.put > 0 || turn.full.is_some();
         }
-        Ok(settle(&mut self.comms, &mut self.links, caller))
+        Ok(moved)
     }
 
-    fn settle(&mut self, caller: u32) -> Result<(), Fail> {
-        self.try_settle(caller)??;
-        Ok(())
+    // Rounds, until one does nothing.
+    fn run_all(&mut self) -> Result<(), Fail> {
+        for _ in 0..100 {
+            if !self.round()? {
+                return Ok(());
+            }
+        }
+        Err("all letters run within 100 rounds".into())
     }
 
     // how many batches a rank put and took
@@ -41,7 +39,7 @@ fn crossing(rt: &impl Abort, ranks: &mut Ranks<Echo>) -> Result<(), Fail> {
     ranks.send(0, 1, NOTE, b"ab")?;
     ranks.send(0, 0, NOTE, b"c")?;
     ranks.send(1, 0, NOTE, b"xy")?;
-    ranks.settle(0)?;
+    ranks.run_all()?;
     same(
         rt,
         (ranks.state(0)?, ranks.state(1)?),
@@ -51,7 +49,7 @@ fn crossing(rt: &impl Abort, ranks: &mut Ranks<Echo>) -> Result<(), Fail> {
 }
 
 #[test]
-fn a_barrier_runs_what_its_caller_sent(rt: HostRuntime) -> Result<(), Fail> {
+fn each_letter_runs_where_it_was_sent(rt: HostRuntime) -> Result<(), Fail> {
     crossing(&rt, &mut ranks_of(rt.alloc(), 2, 4, Limits::FULL)?)
 }
 
@@ -63,7 +61,7 @@ fn through_a_narrow_link(
     to: u32,
 ) -> Result<(), Fail> {
     ranks.send(from, to, NOTE, b"abcde")?;
-    ranks.settle(from)?;
+    ranks.run_all()?;
     same(
         rt,
         (ranks.link_len(from, to)?, ranks.state(to)?),
@@ -73,68 +71,45 @@ fn through_a_narrow_link(
 }
 
 #[test]
-fn a_barrier_runs_more_letters_than_a_link_holds(rt: HostRuntime) -> Result<(), Fail> {
+fn more_letters_run_than_a_link_holds(rt: HostRuntime) -> Result<(), Fail> {
     let mut ranks = ranks_of(rt.alloc(), 2, 1, Limits::FULL)?;
     through_a_narrow_link(&rt, &mut ranks, 0, 1)
 }
 
-// A lower rank takes before the caller has put, so that it needs a round more.
+// A lower rank takes before the sender has put.
 #[test]
-fn a_barrier_runs_as_many_at_a_lower_rank(rt: HostRuntime) -> Result<(), Fail> {
+fn as_many_run_at_a_lower_rank(rt: HostRuntime) -> Result<(), Fail> {
     let mut ranks = ranks_of(rt.alloc(), 2, 1, Limits::FULL)?;
     through_a_narrow_link(&rt, &mut ranks, 1, 0)
 }
 
-// The barrier of a rank that asks, and then that of the rank that answered.
-fn asked(rt: &impl Abort, ranks: &mut Ranks<Echo>) -> Result<(), Fail> {
-    ranks.send(0, 1, ASK, b"q")?;
-    ranks.settle(0)?;
-    let waiting = ranks.link_len(1, 0)?;
-    ranks.settle(1)?;
-    same(
-        rt,
-        (
-            waiting,
-            ranks.link_len(1, 0)?,
-            ranks.state(0)?,
-            ranks.state(1)?,
-        ),
-        (1, 0, (b"q\0".as_slice(), 1, 2), (b"q".as_slice(), 2, 1)),
-    );
-    Ok(())
-}
-
-#[test]
-fn answers_run_in_the_barrier_of_the_rank_that_gave_them(rt: HostRuntime) -> Result<(), Fail> {
-    asked(&rt, &mut ranks_of(rt.alloc(), 2, 4, Limits::FULL)?)
-}
-
-// A barrier with nothing sent.
 fn idle(rt: &impl Abort, ranks: &mut Ranks<Echo>) -> Result<(), Fail> {
-    ranks.settle(0)?;
+    let moved = ranks.round()?;
     let none: &[u8] = &[];
     same(
         rt,
         (
+            moved,
             ranks.log_len(0)?,
             ranks.log_len(1)?,
             ranks.state(0)?,
             ranks.state(1)?,
         ),
-        (0, 0, (none, 0, 0), (none, 0, 0)),
+        (false, 0, 0, (none, 0, 0), (none, 0, 0)),
     );
     Ok(())
 }
 
 #[test]
-fn a_barrier_with_nothing_sent_changes_nothing(rt: HostRuntime) -> Result<(), Fail> {
+fn turns_with_nothing_sent_change_nothing(rt: HostRuntime) -> Result<(), Fail> {
     idle(&rt, &mut ranks_of(rt.alloc(), 2, 4, Limits::FULL)?)
 }
 
 // A rank that may send two letters is asked for four: only that rank is stopped.
 fn asked_too_much(rt: &impl Abort, ranks: &mut Ranks<Echo>) -> Result<(), Fail> {
     ranks.send(0, 1, ASK, b"qr")?;
-    let full = matches!(ranks.try_settle(0)?, Err(CommFault::CountFull(_)));
+    ranks.turns(&[0, 1, 0])?;
+    let full = matches!(ranks.try_turn(1)?, Err(CommFault::CountFull(_)));
     let (near, far) = (ranks.rank(0)?, ranks.rank(1)?);
     same(
         rt,
@@ -160,6 +135,6 @@ fn asked_too_much(rt: &impl Abort, ranks: &mut Ranks<Echo>) -> Result<(), Fail> 
 }
 
 #[test]
-fn a_barrier_fails_where_a_handler_sends_too_many(rt: HostRuntime) -> Result<(), Fail> {
+fn a_turn_that_fails_keeps_what_ran_before(rt: HostRuntime) -> Result<(), Fail> {
     asked_too_much(&rt, &mut ranks_of(rt.alloc(), 2, 4, TWO_LETTERS)?)
 }

@@ -1,9 +1,0 @@
-pub mod Advanced
-pub mod AreRanks
-pub mod HasRun
-pub mod Links
-pub mod NoneLost
-pub mod PlainTurn
-pub mod Rounds
-pub mod Stops
-pub mod TurnMoves
