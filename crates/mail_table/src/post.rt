@@ -1,5 +1,6 @@
 //! A post for one rank, over a table.
 ghost use Rattle.std.specs.Prelude.{◌≡◌, ◌<◌, true, false, None, IsTrue, IsNone, IfSome, OnOk, IfErr};
+ghost use Rattle.world_core.specs.Kept.{Counted};
 ghost use Rattle.world_core.specs.Post.{IfFull, IfNoMemory, LookKeeps, PutKeeps, RaiseKeeps, StopRaised, TakeKeeps, batch_back, local_at};
 ghost use Rattle.world_core.specs.Rules.{first_broken};
 ghost use Rattle.world_core.specs.Rules.Deed.{Puts};
@@ -11,7 +12,17 @@ use crate::table::MailTable;
 use msg_codec::Batch;
 use rising_counts::one_more;
 use std::marker::Model;
+use world_core::laws::an_honest_put_is_between_ranks;
 use world_core::{Post, PutBack};
+
+/// Adds one to the count of a rank. A count at the largest value of its type stays there.
+fn count_one(counts: &mut [u64; 64], rank: u32)
+    requires { rank < 64 }
+    ensures { Counted rank counts.old counts.new }
+{
+    let count = counts[rank as usize];
+    counts[rank as usize] = one_more(count);
+}
 
 /// A post for the rank of a pass. It may be made for one turn and taken apart after it, and takes no memory.
 #[derive(Drop)]
@@ -51,7 +62,7 @@ impl<'a> TablePost<'a> {
 
     /// Gives the pass back.
     pub fn into_pass(self) -> Pass
-        ensures { result ≡ self.pass }
+        ensures { result ≡ self.entry.pass }
     {
         let TablePost {
             table: _,
@@ -77,10 +88,11 @@ impl<'a> Post for TablePost<'a> {
         ensures keeps { PutKeeps here (state_of self.old) (state_of self.new) }
     {
         let _ = here;
+        an_honest_put_is_between_ranks();
+        self.table.holds();
         match self.table.put(&mut self.pass, to, batch) {
             Err(PutBack::Full(batch)) => {
-                let count = self.fulls[to as usize];
-                self.fulls[to as usize] = one_more(count);
+                count_one(&mut self.fulls, to);
                 Err(PutBack::Full(batch))
             }
             other => other,
@@ -95,11 +107,11 @@ impl<'a> Post for TablePost<'a> {
         ensures keeps { TakeKeeps here (state_of self.old) (state_of self.new) }
     {
         let _ = here;
+        self.table.holds();
         match self.table.take(&mut self.pass, from) {
             Some(batch) => Some(batch),
             None => {
-                let count = self.misses[from as usize];
-                self.misses[from as usize] = one_more(count);
+                count_one(&mut self.misses, from);
                 None
             }
         }

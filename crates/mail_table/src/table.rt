@@ -5,7 +5,7 @@ ghost use Rattle.world_core.specs.Post.{IfFull, IfNoMemory, batch_back};
 ghost use Rattle.world_core.specs.Rules.{first_broken};
 ghost use Rattle.world_core.specs.Rules.Deed.{Puts};
 ghost use Rattle.mail_table.specs.Calls.{BatchPut, BatchTaken, LinkFull, NothingNew, StopLoaded};
-ghost use Rattle.mail_table.specs.Table.{AreAllPasses, IsFreshTable, IsPassOf, local_of, world_of};
+ghost use Rattle.mail_table.specs.Table.{AreAllPasses, IsFreshTable, IsPassOf, IsSettings, local_of, world_of};
 
 use crate::closed::Closed;
 use crate::links::Links;
@@ -56,6 +56,14 @@ impl MailTable {
         let (links, seat) = Links::new(alloc, settings)?;
         let passes = all_passes(alloc, &links, seat)?;
         Ok((MailTable { links }, passes))
+    }
+
+    /// It does nothing. A layout has at most 32 ranks, a link holds from one to four batches, and carries at most as many
+    /// as a link may.
+    pub fn holds(&self)
+        ensures { IsSettings self.now.settings }
+    {
+        let _ = &self.links;
     }
 
     /// Puts a batch, as the rank of the pass, into its link to `to`. The batch breaks no rule.

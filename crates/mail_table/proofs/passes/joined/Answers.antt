@@ -22,5 +22,5 @@ pub returns-clause-sound : goal.returns-clause-sound
 returns-clause-sound c =
     let links = c.args.links.now in let seat = c.gathered-seat.result.me in let has = c.gathered-seat.ensures.has in let learned = c.load.ensures.2 in
     let all = sym (length-map seat.0.ranks (λ (rank : RankView). rank.log)) ∙ ap length has.logs_are ∙ length-map c.args.passes.items (λ (pass : PassState). pass.log)
-            ∙ c.requires.all ∙ ap (λ (settings : Settings). settings.layout.ranks) (sym has.settings_are) in
+    ∙ c.requires.all ∙ ap (λ (settings : Settings). settings.layout.ranks) (sym has.settings_are) in
     subst (λ (z : Seated). IsWorld (world_in z.0.settings z.0.ranks)) (sym learned.same) (learned.sound has.first_is all)

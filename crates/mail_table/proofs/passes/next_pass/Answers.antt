@@ -18,7 +18,7 @@ pub invariant_of-result : goal.invariant_of-result
 invariant_of-result c =
     let settings = c.args.links.now.settings in let view = ap (λ (seat : Seated). seat.0) c.requires.others in
     is_fresh_pass settings c.args.rank c.requires.rank c.in_ok-puts.puts.items c.in_ok-takes.takes.items c.split_seat-seat.result.me (search rules) (search rules)
-        (c.split_seat-seat.ensures.4 ∙ ap (λ (v : View). (v, [])) (given_is settings c.args.rank c.requires.rank c.args.others.now.me.0 view))
+    (c.split_seat-seat.ensures.4 ∙ ap (λ (v : View). (v, [])) (given_is settings c.args.rank c.requires.rank c.args.others.now.me.0 view))
 
 pub returns-clause-pass : goal.returns-clause-pass
 returns-clause-pass c =

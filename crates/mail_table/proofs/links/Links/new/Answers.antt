@@ -13,4 +13,4 @@ vacant-requires c =
     let words : c.as_slice.result.now ≡ replicate {A = ℕ} (words_of settings.layout.ranks) 0 = search rules in
     let count : c.ranks-ranks.result * c.ranks-ranks.result * settings.ring ≡ slots_of settings.layout.ranks settings.ring = search rules in
     subst (λ (z : List ℕ × ℕ). Rule settings (opening z.0 (replicate {A = Option (List Letter)} z.1 None) (fresh_view settings))) (λ i. (sym words i, sym count i))
-        (starts settings c.a_fresh_world_is_sound.ensures c.requires)
+    (starts settings c.a_fresh_world_is_sound.ensures c.requires)
