@@ -1,5 +1,5 @@
 -- What a post over a table shows: that of any post, for one rank; and what caused the answers of its calls.
-use Rattle.std.specs.Prelude.{◌≡◌, ℕ, Bool, ◌==◌, ◌&&◌, List, [], slice_index_or, replicate, if◌then◌else◌}
+use Rattle.std.specs.Prelude.{◌≡◌, ℕ, ◌==◌, ◌&&◌, List, [], slice_index_or, replicate, if◌then◌else◌}
 use Rattle.msg_codec.specs.declared.letter.Letter.{Letter}
 use Rattle.rising_counts.specs.Rising.{next_count}
 use Rattle.world_core.specs.Post.{PostState, PutDone, PutFoundFull, SawNoStop, SawStop, TookBatch, TookNone}

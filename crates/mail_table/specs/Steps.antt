@@ -1,12 +1,11 @@
 -- Only private functions cite this module: what each kind of step on a word does to the seat that makes it.
-use Rattle.std.specs.Prelude.{◌≡◌, ℕ, ◌≤◌, Bool, true, false, not, ◌+◌, ◌<◌, Option, Some, None, List, [], ◌∷◌, ◌++◌, length, nat_lt, MatchBool}
+use Rattle.std.specs.Prelude.{◌≡◌, ℕ, ◌≤◌, Bool, true, false, not, ◌<◌, Option, Some, None, List, [], ◌∷◌, ◌++◌, length, nat_lt, MatchBool}
 use Rattle.atomic_table.specs.Table.{Me, Step, rest}
 use Rattle.msg_codec.specs.declared.letter.Letter.{Letter}
 use Rattle.world_core.specs.declared.entry.Entry.TheVariants.{Put, Took}
 use Rattle.world_core.specs.Local.{Local, local_rank}
 use Rattle.world_core.specs.Log.{batches_put, batches_taken}
 use Rattle.world_core.specs.Modest.{IsModest, IsWorld}
-use Rattle.mail_table.specs.declared.views.RankView.{RankView}
 use Rattle.mail_table.specs.declared.views.View.{View}
 use Rattle.mail_table.specs.Calls.{is_raised}
 use Rattle.mail_table.specs.Rule.{world_in}

@@ -1,11 +1,10 @@
 -- How each step keeps the words and the slots of one link.
-use Rattle.std.proofs.Common.{◌≡◌, ◌≢◌, ℕ, zero, suc, ◌+◌, ◌%◌, ◌<◌, ◌≤◌, Bool, true, false, true≢false, List, [], ◌∷◌, ◌++◌, length, set, Option, Some, refl, sym, ap, ◌∙◌, subst, arith, length-append, mod-lt, le_refl, lt_of_not-le}
-use mathlib.Core.Option.{some, none, some-injective, some-ne-none}
+use Rattle.std.proofs.Common.{◌≡◌, ◌≢◌, ℕ, ◌+◌, ◌%◌, ◌<◌, ◌≤◌, Bool, true, false, true≢false, List, [], ◌∷◌, ◌++◌, length, set, Option, Some, refl, sym, ap, ◌∙◌, subst, arith, length-append, mod-lt, le_refl, lt_of_not-le}
+use mathlib.Core.Option.{some, none}
 use native.Mathlib.Decide.{dec_le, ℕ_discrete}
 use native.Mathlib.Nat.{add-mod_right}
 use lib.ListN.{get_elem?}
 use Rattle.atomic_table.proofs.Lists.{set_here, set_else, one_turn}
-use Rattle.list_facts.specs.Prefix.{IsPrefix}
 use Rattle.list_facts.proofs.Prefix.{prefix_length, prefix_longer}
 use Rattle.mail_table.specs.OneLink.{Homes, Holds, LinkAgrees, one_if}
 use Rattle.mail_table.proofs.Found.{found_before, found_below, found_last, found_there, prefix_found}

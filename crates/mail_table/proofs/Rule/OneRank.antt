@@ -1,9 +1,8 @@
 -- The rule after a step of one rank.
-use Rattle.std.proofs.Common.{◌≡◌, ◌≢◌, ◌⊎◌, ℕ, zero, suc, ◌+◌, ◌<◌, ◌≤◌, List, [], ◌∷◌, length, set, refl, sym, ap, ◌∙◌, subst, ⊎_elim, arith, length-set}
+use Rattle.std.proofs.Common.{◌≡◌, ◌≢◌, ℕ, zero, suc, ◌+◌, ◌<◌, List, [], ◌∷◌, length, set, refl, sym, ap, ◌∙◌, subst, ⊎_elim, arith, length-set}
 use Rattle.std.proofs.lemmas.List.{get_or-set_other, length-map}
 use mathlib.Core.Option.{some, some-ne-none}
 use lib.ListN.{get_elem?}
-use Rattle.atomic_table.specs.Table.{State}
 use Rattle.atomic_table.proofs.Lists.{at_set, set_here, set_else}
 use Rattle.msg_codec.specs.declared.letter.Letter.{Letter}
 use Rattle.world_core.specs.Modest.{IsWorld}
@@ -11,8 +10,7 @@ use Rattle.mail_table.specs.declared.settings.Settings.{Settings}
 use Rattle.mail_table.specs.declared.views.RankView.{RankView}
 use Rattle.mail_table.specs.declared.views.View.{View}
 use Rattle.mail_table.specs.OneLink.{Homes, one_if}
-use Rattle.mail_table.specs.Rule.{HasSettings, Knows, LinksAt, Mails, Rule, some_raised, word_at, world_in}
-use Rattle.mail_table.specs.Seats.{IsOf}
+use Rattle.mail_table.specs.Rule.{Knows, LinksAt, Mails, Rule, some_raised, word_at, world_in}
 use Rattle.mail_table.specs.Views.{knowing, mine}
 use Rattle.mail_table.specs.Words.{stop_word}
 use Rattle.mail_table.proofs.Found.{found_below, set_same}

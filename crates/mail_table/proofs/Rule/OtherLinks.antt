@@ -1,5 +1,5 @@
 -- What a step on one link does to the links of the rule.
-use Rattle.std.proofs.Common.{◌≡◌, ◌≢◌, ◌⊎◌, ℕ, ◌+◌, ◌%◌, ◌<◌, Bool, List, length, get_or, set, refl, sym, ap, ◌∙◌, subst, ⊎_elim, length-set, mod-lt, arith}
+use Rattle.std.proofs.Common.{◌≡◌, ◌≢◌, ℕ, ◌+◌, ◌%◌, ◌<◌, Bool, List, length, set, refl, sym, ap, ◌∙◌, subst, ⊎_elim, length-set, mod-lt}
 use mathlib.Core.Option.{some, some-injective}
 use native.Mathlib.Decide.{ℕ_discrete}
 use lib.ListN.{get_elem?}

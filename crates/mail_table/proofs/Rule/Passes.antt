@@ -1,5 +1,5 @@
 -- The rule at the start, as passes are made and joined, and what the seat of all ranks learns.
-use Rattle.std.proofs.Common.{◌≡◌, ◌≢◌, ◌⊎◌, ℕ, zero, suc, ◌+◌, ◌%◌, ◌<◌, ◌≤◌, Bool, true, false, ◌||◌, List, [], ◌∷◌, ◌++◌, map, length, get_or, set, replicate, Option, Some, None, refl, sym, ap, ◌∙◌, subst, ⊎_elim, arith, length-set, mod-lt}
+use Rattle.std.proofs.Common.{◌≡◌, ◌≢◌, ℕ, zero, suc, ◌+◌, ◌%◌, ◌<◌, ◌≤◌, false, List, [], ◌∷◌, ◌++◌, map, length, get_or, set, replicate, Option, None, refl, sym, ap, ◌∙◌, subst, ⊎_elim, arith, mod-lt}
 use Rattle.std.proofs.lemmas.List.{length-map, length-replicate}
 use mathlib.Core.Option.{some, none, some-injective, some-ne-none}
 use native.Mathlib.Decide.{ℕ_discrete}
@@ -10,17 +10,16 @@ use Rattle.msg_codec.specs.declared.letter.Letter.{Letter}
 use Rattle.ygm_route.specs.declared.scheme.Scheme.{Scheme}
 use Rattle.ygm_route.specs.Layout.{IsLayout, Shape}
 use Rattle.world_core.specs.declared.entry.Entry.{Entry}
-use Rattle.world_core.specs.Log.{batches_put, batches_taken}
 use Rattle.world_core.specs.Modest.{IsWorld}
 use Rattle.world_core.specs.World.{fresh}
 use Rattle.mail_table.specs.declared.settings.Settings.{Settings}
 use Rattle.mail_table.specs.declared.views.RankView.{RankView}
 use Rattle.mail_table.specs.declared.views.View.{View}
 use Rattle.mail_table.specs.OneLink.{Homes, LinkAgrees, one_if}
-use Rattle.mail_table.specs.Rule.{HasSettings, Knows, LinkAt, Mails, Rule, logs_of, some_raised, word_at, world_in}
+use Rattle.mail_table.specs.Rule.{HasSettings, Knows, LinkAt, Mails, Rule, logs_of, some_raised, world_in}
 use Rattle.mail_table.specs.Steps.{LearnsAll, Seated}
 use Rattle.mail_table.specs.Table.{IsSettings}
-use Rattle.mail_table.specs.Views.{first_part, first_rank, fresh_rank, fresh_view, joined, mine, other_part, other_ranks, spent}
+use Rattle.mail_table.specs.Views.{first_part, first_rank, fresh_rank, fresh_view, joined, other_part, other_ranks, spent}
 use Rattle.mail_table.specs.Words.{base, head_at, slots_of, stop_word, tail_at, words_of}
 use Rattle.mail_table.proofs.Found.{found_below, found_joined, found_more, same_found, set_same}
 use Rattle.mail_table.proofs.Rule.OneRank.{all_ranks}

@@ -1,17 +1,16 @@
 -- A put keeps the rule: the load of the head word, and the store of the tail word.
-use Rattle.std.proofs.Common.{◌≡◌, ◌≢◌, ◌⊎◌, ℕ, ◌+◌, ◌%◌, ◌<◌, ◌≤◌, Bool, true, false, not, ◌||◌, nat_le, nat_eq, MatchBool, List, [], ◌∷◌, ◌++◌, length, get_or, set, Option, None, Some, refl, sym, ap, ◌∙◌, subst, inl, inr, arith, append-nil, length-set, mod-lt, if◌then◌else◌}
+use Rattle.std.proofs.Common.{◌≡◌, ◌≢◌, ◌⊎◌, ℕ, ◌+◌, ◌%◌, ◌<◌, ◌≤◌, Bool, true, false, not, nat_eq, MatchBool, List, [], ◌∷◌, ◌++◌, length, set, Option, None, Some, refl, sym, ap, ◌∙◌, subst, inl, inr, arith, append-nil, length-set, mod-lt, if◌then◌else◌}
 use Rattle.std.proofs.lemmas.Bool.{eq-eqb, ne_eqb}
 use Rattle.std.proofs.lemmas.List.{get_or-set_same, get_or-set_other}
 use mathlib.Core.Option.{some, none}
 use mathlib.Core.Option as maybe
 use lib.ListN.{get_elem?}
-use Rattle.atomic_table.specs.Table.{Act, Allows, Valid, carried_after, gives, keeps, put_back, rest, step, stepped, takes}
+use Rattle.atomic_table.specs.Table.{Act, Allows, Valid, carried_after, gives, keeps, put_back, step, stepped, takes}
 use Rattle.atomic_table.proofs.Lists.{set_else}
 use Rattle.list_facts.proofs.Prefix.{prefix_length}
 use Rattle.msg_codec.specs.declared.letter.Letter.{Letter}
 use Rattle.world_core.specs.declared.entry.Entry.TheVariants.{Put}
 use Rattle.world_core.specs.Log.{batches_put, batches_taken}
-use Rattle.world_core.specs.Modest.{IsWorld}
 use Rattle.world_core.specs.Rules.{first_broken}
 use Rattle.world_core.specs.Rules.Deed.{Puts}
 use Rattle.world_core.proofs.Log.Appended.{batches_put-put, batches_taken-put}
@@ -25,10 +24,10 @@ use Rattle.mail_table.specs.Steps.{HeadLoaded, LoadsHead, Seated, StoresTail, af
 use Rattle.mail_table.specs.Table.{is_full_at}
 use Rattle.mail_table.specs.Views.{knowing, loaded_at, mine}
 use Rattle.mail_table.specs.Words.{base, head_at, slot_at, tail_at}
-use Rattle.mail_table.proofs.Found.{found_below, found_there}
+use Rattle.mail_table.proofs.Found.{found_there}
 use Rattle.mail_table.proofs.OneLink.EachStep.{fills, puts}
 use Rattle.mail_table.proofs.Rule.OneRank.{IsHere, after_load, after_store, all_ranks, is_here}
-use Rattle.mail_table.proofs.Rule.OtherLinks.{Other, SamePuts, SameTakes, link_to, links_after, same_takes}
+use Rattle.mail_table.proofs.Rule.OtherLinks.{Other, SamePuts, SameTakes, link_to, links_after}
 use Rattle.mail_table.proofs.Rule.Worlds.{PutLaw, world_after_put, world_stays}
 use Rattle.mail_table.proofs.Words.Apart.{base_within, no_head, one_head, one_tail, tail_some, tail_within}
 

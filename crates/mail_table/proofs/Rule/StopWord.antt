@@ -1,19 +1,17 @@
 -- The steps on the stop word keep the rule.
-use Rattle.std.proofs.Common.{◌≡◌, ◌≢◌, ◌⊎◌, ℕ, ◌+◌, ◌<◌, Bool, true, List, [], ◌∷◌, length, set, Option, refl, sym, ap, ◌∙◌, subst, arith, length-set}
+use Rattle.std.proofs.Common.{◌≡◌, ℕ, ◌<◌, true, [], ◌∷◌, length, set, refl, sym, ap, ◌∙◌, arith, length-set}
 use Rattle.std.proofs.lemmas.List.{get_or-set_same, get_or-set_other}
-use mathlib.Core.Option.{some, none}
-use lib.ListN.{get_elem?}
+use mathlib.Core.Option.{none}
 use Rattle.atomic_table.specs.Table.{Allows, keeps, step}
-use Rattle.msg_codec.specs.declared.letter.Letter.{Letter}
 use Rattle.mail_table.specs.declared.settings.Settings.{Settings}
 use Rattle.mail_table.specs.declared.views.RankView.{RankView}
 use Rattle.mail_table.specs.declared.views.View.{View}
 use Rattle.mail_table.specs.Calls.{is_raised}
 use Rattle.mail_table.specs.OneLink.{one_if}
-use Rattle.mail_table.specs.Rule.{LinkAt, LinksAt, Mails, Rule, some_raised, word_at}
+use Rattle.mail_table.specs.Rule.{Mails, Rule, word_at}
 use Rattle.mail_table.specs.Steps.{LoadsStop, Seated, StoresStop}
 use Rattle.mail_table.specs.Views.{knowing, loaded, mine}
-use Rattle.mail_table.specs.Words.{base, head_at, stop_word, tail_at, words_of}
+use Rattle.mail_table.specs.Words.{head_at, stop_word, tail_at, words_of}
 use Rattle.mail_table.proofs.Rule.OneRank.{after_load, all_ranks, is_here, rebuilt}
 use Rattle.mail_table.proofs.Rule.OtherLinks.{every_link}
 use Rattle.mail_table.proofs.Rule.Stops.{now_raised, was_raised}

@@ -1,24 +1,23 @@
 -- A take keeps the rule: the load of the tail word, and the store of the head word.
-use Rattle.std.proofs.Common.{◌≡◌, ◌≢◌, ◌⊎◌, ℕ, ◌+◌, ◌%◌, ◌<◌, ◌≤◌, Bool, true, false, nat_eq, nat_lt, MatchBool, List, [], ◌∷◌, ◌++◌, length, set, Option, None, Some, refl, sym, ap, ◌∙◌, subst, ⊎_elim, arith, append-nil, length-append, length-set, mod-lt, if◌then◌else◌}
+use Rattle.std.proofs.Common.{◌≡◌, ℕ, ◌+◌, ◌%◌, ◌<◌, ◌≤◌, Bool, true, false, nat_eq, MatchBool, List, [], ◌∷◌, ◌++◌, length, set, Option, None, Some, refl, sym, ap, ◌∙◌, subst, arith, append-nil, length-set, mod-lt, if◌then◌else◌}
 use Rattle.std.proofs.lemmas.Bool.{eq-eqb, ltb-true, ne_eqb}
 use Rattle.std.proofs.lemmas.List.{get_or-set_same, get_or-set_other}
 use mathlib.Core.Option.{some, none}
-use mathlib.Core.Option as maybe
 use lib.ListN.{get_elem?}
-use Rattle.atomic_table.specs.Table.{Act, Allows, Valid, carried_after, gives, keeps, put_back, rest, step, stepped, takes}
-use Rattle.atomic_table.proofs.Lists.{at_set, set_else}
+use Rattle.atomic_table.specs.Table.{Act, Allows, Valid, carried_after, gives, keeps, put_back, step, stepped, takes}
+use Rattle.atomic_table.proofs.Lists.{set_else}
 use Rattle.list_facts.proofs.Prefix.{prefix_length}
 use Rattle.msg_codec.specs.declared.letter.Letter.{Letter}
 use Rattle.world_core.specs.declared.entry.Entry.TheVariants.{Took}
 use Rattle.world_core.specs.Log.{batches_put, batches_taken}
-use Rattle.world_core.specs.Modest.{IsModest, IsWorld}
+use Rattle.world_core.specs.Modest.{IsModest}
 use Rattle.world_core.proofs.Log.Appended.{batches_put-took, batches_taken-took}
 use Rattle.ygm_route.specs.Layout.{max_ranks}
 use Rattle.mail_table.specs.declared.settings.Settings.{Settings}
 use Rattle.mail_table.specs.declared.views.RankView.{RankView}
 use Rattle.mail_table.specs.declared.views.View.{View}
-use Rattle.mail_table.specs.OneLink.{Homes, LinkAgrees, one_if}
-use Rattle.mail_table.specs.Rule.{LinkAt, Mails, Rule, is_at, word_at, world_in}
+use Rattle.mail_table.specs.OneLink.{Homes, LinkAgrees}
+use Rattle.mail_table.specs.Rule.{LinkAt, Mails, Rule, is_at, word_at}
 use Rattle.mail_table.specs.Steps.{LoadsTail, Seated, StoresHead, TailLoaded, after_free, after_tail, has_more, local_in, slot_from, taken_in}
 use Rattle.mail_table.specs.Views.{knowing, loaded_at, mine}
 use Rattle.mail_table.specs.Words.{base, head_at, slot_at, tail_at}

@@ -1,5 +1,5 @@
 -- The steps as the calls make them: with the settings of the table, and by the rank and the word that they name.
-use Rattle.std.proofs.Common.{◌≡◌, ℕ, ◌+◌, ◌<◌, List, [], ◌∷◌, length, Option, None, Some, refl, sym, ap, ◌∙◌, subst, arith}
+use Rattle.std.proofs.Common.{◌≡◌, ℕ, ◌+◌, ◌<◌, List, [], ◌∷◌, Option, None, Some, sym, ap, ◌∙◌, subst, arith}
 use mathlib.Core.Option.{none}
 use Rattle.atomic_table.specs.Seated.{TableId}
 use Rattle.atomic_table.specs.Table.{Allows, step}
@@ -10,9 +10,9 @@ use Rattle.ygm_route.specs.Layout.{max_ranks}
 use Rattle.mail_table.specs.declared.settings.Settings.{Settings}
 use Rattle.mail_table.specs.Rule.{Rule}
 use Rattle.mail_table.specs.Seats.{IsAt, IsEmptying, IsFilling, IsLaidOut, IsOf}
-use Rattle.mail_table.specs.Steps.{HeadLoaded, LoadsHead, LoadsStop, LoadsTail, Seated, StoresHead, StoresStop, StoresTail, TailLoaded, local_in, put_in, slot_from, slot_to, taken_in}
+use Rattle.mail_table.specs.Steps.{HeadLoaded, LoadsHead, LoadsStop, LoadsTail, Seated, StoresHead, StoresStop, StoresTail, TailLoaded, local_in, slot_to}
 use Rattle.mail_table.specs.Table.{IsSettings}
-use Rattle.mail_table.specs.Words.{head_at, stop_word, tail_at, words_of}
+use Rattle.mail_table.specs.Words.{head_at, stop_word, tail_at}
 use Rattle.mail_table.proofs.Rule.Puts.{loads_head, stores_tail}
 use Rattle.mail_table.proofs.Rule.StopWord.{loads_stop, stores_stop}
 use Rattle.mail_table.proofs.Rule.Takes.{loads_tail, stores_head}

@@ -1,17 +1,17 @@
 -- Seats between the steps of a put and of a take.
-use Rattle.std.proofs.Common.{◌≡◌, ℕ, ◌+◌, ◌-◌, ◌<◌, ◌≤◌, Bool, true, false, true≢false, not, ◌||◌, nat_eq, nat_le, nat_lt, MatchBool, List, [], ◌∷◌, ◌++◌, length, Option, None, Some, refl, sym, ap, ◌∙◌, subst, arith, length-append, if◌then◌else◌}
+use Rattle.std.proofs.Common.{◌≡◌, ℕ, ◌+◌, ◌-◌, ◌<◌, Bool, true, not, MatchBool, List, [], ◌∷◌, ◌++◌, length, Option, Some, refl, sym, ap, ◌∙◌, subst, arith, length-append, if◌then◌else◌}
 use Rattle.std.proofs.lemmas.Bool.{eq-eqb, lt-ltb}
 use Rattle.atomic_table.specs.Table.{rest}
 use Rattle.msg_codec.specs.declared.letter.Letter.{Letter}
-use Rattle.world_core.specs.declared.entry.Entry.TheVariants.{Put, Took}
+use Rattle.world_core.specs.declared.entry.Entry.TheVariants.{Took}
 use Rattle.world_core.specs.Log.{batches_taken}
 use Rattle.world_core.specs.Modest.{IsModest}
 use Rattle.world_core.proofs.Log.Appended.{batches_taken-took}
 use Rattle.mail_table.specs.declared.settings.Settings.{Settings}
 use Rattle.mail_table.specs.declared.views.RankView.{RankView}
 use Rattle.mail_table.specs.declared.views.View.{View}
-use Rattle.mail_table.specs.Seats.{IsAt, IsEmptying, IsFilling, IsOf, SeatFull, SeatNone, SeatPut, SeatTook, after_call}
-use Rattle.mail_table.specs.Steps.{HeadLoaded, Seated, TailLoaded, after_free, after_head, after_put, after_tail, batch_in, has_more, has_room, local_in, put_in, rank_in, slot_from, slot_to, taken_in}
+use Rattle.mail_table.specs.Seats.{IsAt, IsEmptying, IsFilling, IsOf}
+use Rattle.mail_table.specs.Steps.{HeadLoaded, Seated, TailLoaded, after_head, after_tail, has_more, has_room, local_in, put_in, slot_from, slot_to, taken_in}
 use Rattle.mail_table.specs.Table.{is_full_at}
 use Rattle.mail_table.specs.Views.{knowing, loaded_at, mine}
 use Rattle.mail_table.specs.Words.{slot_at}

@@ -1,5 +1,5 @@
 -- The seat that makes all passes gives the next one away.
-use Rattle.std.proofs.Common.{◌≡◌, ℕ, zero, suc, ◌+◌, ◌-◌, ◌<◌, ◌≤◌, List, [], ◌∷◌, length, get_or, replicate, refl, sym, ap, ◌∙◌, subst, arith}
+use Rattle.std.proofs.Common.{◌≡◌, ℕ, zero, suc, ◌+◌, ◌-◌, ◌<◌, List, [], ◌∷◌, get_or, replicate, refl, sym, ap, ◌∙◌, subst, arith}
 use Rattle.std.proofs.lemmas.List.{length-replicate}
 use Rattle.atomic_table.specs.Table.{Splits}
 use Rattle.mail_table.specs.declared.settings.Settings.{Settings}
@@ -8,7 +8,7 @@ use Rattle.mail_table.specs.declared.views.View.{View}
 use Rattle.mail_table.specs.Rule.{Rule}
 use Rattle.mail_table.specs.Seats.{AreCounts, IsPass, dealing}
 use Rattle.mail_table.specs.Steps.{Seated}
-use Rattle.mail_table.specs.Views.{first_part, first_rank, fresh_rank, fresh_view, no_loads, other_part, other_ranks}
+use Rattle.mail_table.specs.Views.{first_part, first_rank, fresh_rank, no_loads, other_part, other_ranks}
 use Rattle.mail_table.proofs.Rule.Passes.{deals}
 
 module _ (settings : Settings) (rank : ℕ) (within : rank < settings.layout.ranks) where

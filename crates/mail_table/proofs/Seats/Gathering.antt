@@ -1,14 +1,11 @@
 -- Passes are joined, from the last to the first.
-use Rattle.std.proofs.Common.{◌≡◌, ℕ, suc, ◌+◌, ◌<◌, ◌≤◌, List, [], ◌∷◌, ◌++◌, map, length, slice_get, Some, refl, sym, ap, ◌∙◌, subst, arith, length-append}
+use Rattle.std.proofs.Common.{◌≡◌, ℕ, ◌+◌, List, [], ◌∷◌, ◌++◌, length, slice_get, refl, sym, ap, ◌∙◌, subst, arith, length-append}
 use Rattle.std.proofs.lemmas.List.{append_assoc, length-map, map-append}
-use mathlib.Core.Option.{some}
-use lib.ListN.{get_elem?}
 use Rattle.atomic_table.specs.Table.{Joins}
 use Rattle.list_facts.proofs.Places.{item_at_end, item_still}
 use Rattle.world_core.specs.declared.entry.Entry.{Entry}
 use Rattle.mail_table.specs.declared.settings.Settings.{Settings}
 use Rattle.mail_table.specs.declared.views.RankView.{RankView}
-use Rattle.mail_table.specs.declared.views.View.{View}
 use Rattle.mail_table.specs.Rule.{Rule, logs_of}
 use Rattle.mail_table.specs.Seats.{HasLogs}
 use Rattle.mail_table.specs.Steps.{Seated}

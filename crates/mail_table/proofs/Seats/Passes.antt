@@ -1,7 +1,7 @@
 -- A pass is one again after a put and after a take, and at the start.
-use Rattle.std.proofs.Common.{◌≡◌, ◌≢◌, ℕ, ◌+◌, ◌<◌, Bool, true, false, nat_eq, List, [], ◌∷◌, ◌++◌, length, get_or, set, replicate, None, refl, sym, ap, ◌∙◌, subst, length-append, length-set, append-nil, if◌then◌else◌}
+use Rattle.std.proofs.Common.{◌≡◌, ◌≢◌, ℕ, ◌+◌, ◌<◌, Bool, List, [], ◌∷◌, ◌++◌, length, get_or, set, None, refl, sym, ap, ◌∙◌, subst, length-append, length-set, append-nil, if◌then◌else◌}
 use Rattle.std.proofs.lemmas.Bool.{eq-eqb, ne_eqb}
-use Rattle.std.proofs.lemmas.List.{get_or-set_same, get_or-set_other, length-replicate}
+use Rattle.std.proofs.lemmas.List.{get_or-set_same, get_or-set_other}
 use Rattle.std.proofs.lemmas.Option.{same_Some, slice_get-get_or}
 use native.Mathlib.Decide.{ℕ_discrete}
 use Rattle.msg_codec.specs.declared.letter.Letter.{Letter}
@@ -9,11 +9,10 @@ use Rattle.world_core.specs.declared.entry.Entry.{Entry}
 use Rattle.world_core.specs.declared.entry.Entry.TheVariants.{Put, Took}
 use Rattle.world_core.specs.Log.{batches_put, batches_taken}
 use Rattle.world_core.proofs.Log.Appended.{batches_put-put, batches_put-took, batches_taken-put, batches_taken-took}
-use Rattle.mail_table.specs.declared.settings.Settings.{Settings}
 use Rattle.mail_table.specs.declared.views.RankView.{RankView}
 use Rattle.mail_table.specs.Seats.{AreCounts, IsAt, IsPass, SeatPut, SeatTook, after_call}
 use Rattle.mail_table.specs.Steps.{Seated, put_in, taken_in}
-use Rattle.mail_table.specs.Views.{fresh_rank, loaded_at, mine}
+use Rattle.mail_table.specs.Views.{loaded_at, mine}
 
 -- ---- counts
 

@@ -1,5 +1,5 @@
 -- Words and slots of different links are apart, and within the table.
-use Rattle.std.proofs.Common.{◌≡◌, ◌≢◌, ℕ, zero, suc, ◌+◌, ◌*◌, ◌%◌, ◌<◌, ◌≤◌, sym, ap, arith, mul-le-mul_right, suc-mul, lt_of_not-le}
+use Rattle.std.proofs.Common.{◌≡◌, ◌≢◌, ℕ, suc, ◌+◌, ◌*◌, ◌<◌, ◌≤◌, sym, ap, arith, mul-le-mul_right, suc-mul, lt_of_not-le}
 use native.Mathlib.Decide.{dec_le}
 use Rattle.ygm_route.specs.Layout.{max_ranks}
 use Rattle.mail_table.specs.Words.{base, head_at, place, slots_of, tail_at, words_of}

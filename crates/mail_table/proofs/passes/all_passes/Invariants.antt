@@ -1,4 +1,4 @@
-use Rattle.std.proofs.Common.{◌≡◌, ℕ, []}
+use Rattle.std.proofs.Common.{◌≡◌, []}
 use Rattle.mail_table.specs.Seats.{AreFreshPasses, dealing, state_of_links}
 use Rattle.mail_table.proofs.passes.all_passes.Given as goal
 

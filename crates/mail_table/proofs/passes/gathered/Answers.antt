@@ -1,4 +1,4 @@
-use Rattle.std.proofs.Common.{rules, ◌≡◌, ℕ, ◌+◌, List, [], ◌∷◌, ◌++◌, length, append-nil, length-append, refl, sym, ap, ◌∙◌}
+use Rattle.std.proofs.Common.{◌+◌, List, [], ◌∷◌, ◌++◌, length, append-nil, length-append, refl, ap, ◌∙◌}
 use Rattle.world_core.specs.declared.entry.Entry.{Entry}
 use Rattle.mail_table.specs.Rule.{logs_of}
 use Rattle.mail_table.specs.Seats.{state_of_links}

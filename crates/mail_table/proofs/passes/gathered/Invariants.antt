@@ -1,4 +1,4 @@
-use Rattle.std.proofs.Common.{◌≡◌, ℕ, ◌++◌, length}
+use Rattle.std.proofs.Common.{◌≡◌, ◌++◌, length}
 use Rattle.mail_table.specs.Rule.{logs_of}
 use Rattle.mail_table.specs.Seats.{HasLogs, state_of_links}
 use Rattle.mail_table.specs.Table.{InOrder, logs_in}

@@ -1,4 +1,4 @@
-use Rattle.std.proofs.Common.{rules, ◌≡◌, ℕ, List, [], replicate, refl, sym, ap, ◌∙◌, subst}
+use Rattle.std.proofs.Common.{rules, [], ap, ◌∙◌}
 use Rattle.mail_table.specs.declared.views.View.{View}
 use Rattle.mail_table.specs.Seats.{pass_of}
 use Rattle.mail_table.specs.Steps.{Seated}

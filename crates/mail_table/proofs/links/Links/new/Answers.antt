@@ -1,4 +1,4 @@
-use Rattle.std.proofs.Common.{rules, ◌≡◌, ℕ, ◌*◌, List, replicate, None, Option, sym, ap, ◌∙◌, subst}
+use Rattle.std.proofs.Common.{rules, ◌≡◌, ℕ, ◌*◌, List, replicate, None, Option, sym, subst}
 use Rattle.atomic_table.specs.Table.{opening}
 use Rattle.msg_codec.specs.declared.letter.Letter.{Letter}
 use Rattle.mail_table.specs.Rule.{Rule}

@@ -1,4 +1,4 @@
-use Rattle.std.proofs.Common.{rules, ◌≡◌}
+use Rattle.std.proofs.Common.{rules}
 use Rattle.mail_table.proofs.Seats.Passes.{pass_after_put}
 use Rattle.mail_table.proofs.table.MailTable.put.Goals as goal
 

@@ -1,4 +1,4 @@
-use Rattle.std.proofs.Common.{rules, ◌≡◌}
+use Rattle.std.proofs.Common.{rules}
 use Rattle.mail_table.proofs.Seats.Passes.{pass_after_take}
 use Rattle.mail_table.proofs.table.MailTable.take.Goals as goal
 
