@@ -200,26 +200,24 @@ impl Links {
         }
     }
 
-    /// Raises the stop, as the rank `rank`.
-    pub fn raise_at(&self, seat: &mut Mail, rank: u32)
+    /// Raises the stop.
+    pub fn raise_at(&self, seat: &mut Mail)
         requires table { seat.old.table_id ≡ self.now.table.shared.table_id }
-        requires at { IsAt self.now.settings rank seat.old.me }
+        requires at { IsAt self.now.settings seat.old.me.0.first seat.old.me }
         ensures table { seat.new.table_id ≡ seat.old.table_id }
         ensures raised { seat.new.me ≡ (knowing seat.old.me.0 (record (mine seat.old.me.0) { raised = true }), []) }
     {
-        let _ = rank;
         self.table.shared.store::<StoreStop>(seat, STOP, 1);
     }
 
-    /// Loads the stop word, as the rank `rank`.
-    pub fn look_at(&self, seat: &mut Mail, rank: u32) -> u64
+    /// Loads the stop word.
+    pub fn look_at(&self, seat: &mut Mail) -> u64
         requires table { seat.old.table_id ≡ self.now.table.shared.table_id }
-        requires at { IsAt self.now.settings rank seat.old.me }
+        requires at { IsAt self.now.settings seat.old.me.0.first seat.old.me }
         ensures table { seat.new.table_id ≡ seat.old.table_id }
         ensures after { seat.new.me ≡ (knowing seat.old.me.0 (record (mine seat.old.me.0) { stop = loaded (mine seat.old.me.0).stop result }), []) }
         ensures own { (mine seat.old.me.0).raised ≡ true → is_raised result ≡ true }
     {
-        let _ = rank;
         self.table.shared.load::<LoadStop>(seat, STOP)
     }
 }

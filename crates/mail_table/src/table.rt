@@ -107,7 +107,7 @@ impl MailTable {
         requires { IsPassOf self.now pass.old }
         ensures { pass.new ≡ record pass.old { raised = true } }
     {
-        self.links.raise_at(&mut pass.seat, pass.rank);
+        self.links.raise_at(&mut pass.seat);
     }
 
     /// Whether the stop is raised, as the rank of the pass finds it.
@@ -115,7 +115,7 @@ impl MailTable {
         requires { IsPassOf self.now pass.old }
         ensures { StopLoaded result pass.old pass.new }
     {
-        self.links.look_at(&mut pass.seat, pass.rank) != 0
+        self.links.look_at(&mut pass.seat) != 0
     }
 
     /// Joins all passes. Batches that weren't taken are dropped. The logs are those of a sound world: between any two

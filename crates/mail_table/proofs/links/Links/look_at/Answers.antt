@@ -6,5 +6,5 @@ load-requires c =
     let links = c.args.self.now in (
       c.requires.table,
       stop_in links.settings links.bounds links.table.shared.table_id links.laid_out,
-      may_load_stop links.table.shared.key links.settings links.key links.table.shared.table_id.slots c.args.seat.now.id c.args.rank 0 c.args.seat.now.me c.requires.at.of,
+      may_load_stop links.table.shared.key links.settings links.key links.table.shared.table_id.slots c.args.seat.now.id c.args.seat.now.me.0.first 0 c.args.seat.now.me c.requires.at.of,
     )
