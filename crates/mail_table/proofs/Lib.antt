@@ -1,3 +1,4 @@
+pub mod Carrier
 pub mod Found
 pub mod OneLink
 pub mod Rule

@@ -18,3 +18,6 @@ pub use post::TablePost;
 pub use settings::Settings;
 pub use table::MailTable;
 pub use views::Loads;
+
+#[cfg(test)]
+mod tests;
