@@ -2,7 +2,7 @@
 use Rattle.std.proofs.Common.{◌≡◌, ◌≢◌, ℕ, ◌+◌, ◌<◌, Bool, true, false, ◌&&◌, nat_eq, cond, eq-eqb, Option, None, Some, List, [], ◌∷◌, ◌++◌, refl, sym, ap, ◌∙◌, subst, append-nil, arith, length, slice_get}
 use Rattle.std.proofs.lemmas.Bool.{cases_eq, false_from_ne_true, ne_eqb}
 use Rattle.std.proofs.Math.Bool.{and-false}
-use Rattle.std.specs.List.{list_any}
+use Rattle.std.proofs.lemmas.Option.{same_Some}
 use Rattle.msg_codec.specs.Control.{is_count}
 use Rattle.msg_codec.specs.declared.letter.Letter.{Letter}
 use Rattle.ygm_route.specs.declared.scheme.Scheme.{Scheme}
@@ -138,3 +138,6 @@ pub one_of : (batch : List Letter) (l : Letter) → length batch ≡ 1 → slice
 one_of [] l e at = absurd (omega (arith, e))
 one_of (x ∷ []) l e at = let same : x ≡ l = cc in ap (λ y. y ∷ []) same
 one_of (x ∷ y ∷ ys) l e at = absurd (omega (arith, e))
+
+pub is_first : (batch : List Letter) (l x : Letter) → batch ≡ l ∷ [] → slice_get batch 0 ≡ Some x → x ≡ l
+is_first batch l x e at = same_Some x l (sym at ∙ ap (λ b. slice_get b 0) e)
