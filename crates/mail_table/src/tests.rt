@@ -1,6 +1,7 @@
-ghost use Rattle.std.specs.Prelude.{◌≡◌, ◌<◌, [], ◌∷◌, IfSome, length};
+ghost use Rattle.std.specs.Prelude.{◌≡◌, ◌<◌, ◌≤◌, ◌+◌, [], ◌∷◌, IfOk, IfSome, length};
 ghost use Rattle.mail_table.specs.Carrier.{SameCarrier};
-ghost use Rattle.mail_table.specs.Table.{IsPassOf, fresh_pass};
+ghost use Rattle.mail_table.specs.Seats.{AreFreshPasses};
+ghost use Rattle.mail_table.specs.Table.{IsPassOf};
 
 use super::*;
 use msg_codec::{Batch, LetterRef};
@@ -151,7 +152,7 @@ fn pass_on(table: &MailTable, carrier: Carrier) -> Option<Carrier>
 /// their bytes rise.
 fn take(table: &MailTable, carrier: Carrier, from: u32) -> Option<Carrier>
     requires pass { IsPassOf table.now carrier.pass }
-    requires from { from < table.now.settings.layout.ranks }
+    requires from { from < carrier.layout.ranks }
     ensures { IfSome result (λ r. SameCarrier carrier r) }
 {
     let Carrier {
@@ -213,4 +214,193 @@ fn take(table: &MailTable, carrier: Carrier, from: u32) -> Option<Carrier>
         got,
         waiting: Some(batch),
     })
+}
+
+/// A carrier of the last of these passes.
+fn next_carrier(
+    table: &MailTable,
+    passes: &mut Vec<Pass>,
+    layout: Layout,
+    scheme: Scheme,
+) -> Option<Carrier>
+    requires fresh { AreFreshPasses table.now (length passes.old.items) passes.old.items }
+    requires few { length passes.old.items ≤ layout.ranks }
+    requires layout { table.now.settings.layout ≡ layout }
+    requires scheme { table.now.settings.scheme ≡ scheme }
+    ensures fresh { AreFreshPasses table.now (length passes.new.items) passes.new.items }
+    ensures pass { IfSome result (λ c. IsPassOf table.now c.pass) }
+    ensures layout { IfSome result (λ c. c.layout ≡ layout) }
+    ensures rank { IfSome result (λ c. c.pass.rank ≡ length passes.new.items) }
+    ensures fewer { IfSome result (λ c. length passes.old.items ≡ length passes.new.items + 1) }
+{
+    let pass = passes.pop()?;
+    Some(Carrier {
+        pass,
+        layout,
+        scheme,
+        sent: 0,
+        got: 0,
+        waiting: None,
+    })
+}
+
+/// The pass of a carrier.
+fn pass_of(carrier: Carrier) -> Pass
+    ensures { result ≡ carrier.pass }
+{
+    let Carrier {
+        pass,
+        layout: _,
+        scheme: _,
+        sent: _,
+        got: _,
+        waiting: _,
+    } = carrier;
+    pass
+}
+
+/// Tries to send five letters. Says how many of them were put.
+fn send_five(alloc: Global, table: &MailTable, carrier: Carrier, to: u32) -> Option<(Carrier, u64)>
+    requires pass { IsPassOf table.now carrier.pass }
+    requires to { to < carrier.layout.ranks }
+    ensures { IfSome result (λ r. SameCarrier carrier r.0) }
+{
+    let mut carrier = carrier;
+    let mut puts = 0;
+    for number in 0..5 {
+        let (next, put) = send(alloc, table, carrier, to, number)?;
+        carrier = next;
+        if put {
+            puts += 1;
+        }
+    }
+    Some((carrier, puts))
+}
+
+/// Closes a table of two ranks.
+fn close_two(alloc: Global, table: MailTable, first: Carrier, second: Carrier) -> Option<()>
+    requires two { table.settings.layout.ranks ≡ 2 }
+    requires first { IsPassOf table first.pass }
+    requires second { IsPassOf table second.pass }
+    requires ranks { (first.pass.rank ≡ 0) × (second.pass.rank ≡ 1) }
+{
+    let all = vec![in alloc; pass_of(first), pass_of(second)].ok()?;
+    table.close(all).holds();
+    Some(())
+}
+
+/// Rank 0 of two tries to put five letters to rank 1, which took none and then takes one. Then it tries once more. Returns
+/// how many of the five it put, how many letters rank 1 got, and whether there was room in the end.
+fn fill(alloc: Global, ring: u32, limits: Limits) -> Result<(u64, u64, bool), Fail>
+    requires some { 1 ≤ ring }
+    requires few { ring ≤ 4 }
+{
+    let layout = Layout::new(2, 1)?;
+    let (table, mut passes) = MailTable::new(alloc, layout, Scheme::Direct, ring, limits)?;
+    let receiver = next_carrier(&table, &mut passes, layout, Scheme::Direct).ok_or("two passes")?;
+    let sender = next_carrier(&table, &mut passes, layout, Scheme::Direct).ok_or("two passes")?;
+    let receiver = take(&table, receiver, 0).ok_or("an empty link gives nothing")?;
+    let (sender, puts) = send_five(alloc, &table, sender, 1).ok_or("letters are made")?;
+    let receiver = take(&table, receiver, 0).ok_or("the first letter comes first")?;
+    let got = receiver.got;
+    let (sender, room) = send(alloc, &table, sender, 1, 5).ok_or("a letter is made")?;
+    close_two(alloc, table, sender, receiver).ok_or("there is memory for a list")?;
+    Ok((puts, got, room))
+}
+
+#[test]
+fn a_link_holds_as_many_batches_as_its_ring(rt: HostRuntime) -> Result<(), Fail> {
+    let alloc = rt.alloc();
+    let one = fill(alloc, 1, Limits::FULL)?;
+    let four = fill(alloc, 4, Limits::FULL)?;
+    let limits = Limits {
+        letters: 9,
+        rounds: 9,
+        batches: 1,
+    };
+    let spent = fill(alloc, 4, limits)?;
+    assert_eq!(rt;
+        (one, four, spent),
+        ((1, 1, true), (4, 1, true), (1, 1, false))
+    );
+    Ok(())
+}
+
+/// Sends a letter. It tries until the link has room.
+fn send_at_last(
+    alloc: Global,
+    table: &MailTable,
+    carrier: Carrier,
+    to: u32,
+    number: u64,
+) -> Option<Carrier>
+    requires pass { IsPassOf table.now carrier.pass }
+    requires to { to < carrier.layout.ranks }
+    ensures { IfSome result (λ r. SameCarrier carrier r) }
+{
+    let mut carrier = carrier;
+    for _ in 0..u64::MAX {
+        let (next, put) = send(alloc, table, carrier, to, number)?;
+        carrier = next;
+        if put {
+            return Some(carrier);
+        }
+    }
+    None
+}
+
+/// Sends so many letters to each of the ranks 1 to 3.
+fn send_all(alloc: Global, table: &MailTable, carrier: Carrier, count: u64) -> Option<Carrier>
+    requires pass { IsPassOf table.now carrier.pass }
+    requires four { carrier.layout.ranks ≡ 4 }
+    ensures { IfSome result (λ r. SameCarrier carrier r) }
+{
+    let mut carrier = carrier;
+    for number in 0..count {
+        carrier = send_at_last(alloc, table, carrier, 1, number)?;
+        carrier = send_at_last(alloc, table, carrier, 2, number)?;
+        carrier = send_at_last(alloc, table, carrier, 3, number)?;
+    }
+    Some(carrier)
+}
+
+/// Takes from each of four ranks, and passes on what isn't for the rank itself.
+fn turn(table: &MailTable, carrier: Carrier) -> Option<Carrier>
+    requires pass { IsPassOf table.now carrier.pass }
+    requires four { carrier.layout.ranks ≡ 4 }
+    ensures { IfSome result (λ r. SameCarrier carrier r) }
+{
+    let mut carrier = carrier;
+    for from in 0..4 {
+        carrier = pass_on(table, carrier)?;
+        carrier = take(table, carrier, from)?;
+    }
+    pass_on(table, carrier)
+}
+
+/// Whether it got as many letters as that, and has none to pass on.
+fn is_done(carrier: &Carrier, count: u64) -> bool {
+    carrier.got >= count && carrier.waiting.is_none()
+}
+
+/// Gives the ranks 1 to 3 turns until each got as many letters as that. A rank that is done still passes on what comes.
+fn take_all(
+    table: &MailTable,
+    carriers: (Carrier, Carrier, Carrier),
+    count: u64,
+) -> Option<(Carrier, Carrier, Carrier)>
+    requires passes { IsPassOf table.now carriers.0.pass × IsPassOf table.now carriers.1.pass × IsPassOf table.now carriers.2.pass }
+    requires four { (carriers.0.layout.ranks ≡ 4) × (carriers.1.layout.ranks ≡ 4) × (carriers.2.layout.ranks ≡ 4) }
+    ensures { IfSome result (λ r. SameCarrier carriers.0 r.0 × SameCarrier carriers.1 r.1 × SameCarrier carriers.2 r.2) }
+{
+    let (mut first, mut second, mut third) = carriers;
+    for _ in 0..u64::MAX {
+        if is_done(&first, count) && is_done(&second, count) && is_done(&third, count) {
+            return Some((first, second, third));
+        }
+        first = turn(table, first)?;
+        second = turn(table, second)?;
+        third = turn(table, third)?;
+    }
+    None
 }

@@ -116,7 +116,7 @@ pub own_put : (layout : Shape) (scheme : Scheme) (old new : PassState) (sent to 
     batch ≡ l ∷ [] → is_data l ≡ true → l.from ≡ old.rank → BatchPut to batch old new → Carries layout scheme new (sent + 1) None
 own_put layout scheme old new sent to waiting batch l carries none is tagged is_from put =
     subst (λ p. Carries layout scheme p (sent + 1) None) (sym (put.after ∙ ap (λ b. record old { log = old.log ++ Put to b ∷ []; heads = loaded_at old.heads to put.found }) is))
-        (after_own layout scheme old sent to (loaded_at old.heads to put.found) (none_waits layout scheme old sent waiting none carries) l tagged is_from)
+    (after_own layout scheme old sent to (loaded_at old.heads to put.found) (none_waits layout scheme old sent waiting none carries) l tagged is_from)
 
 pub passed : (layout : Shape) (scheme : Scheme) (old new : PassState) (sent to : ℕ) (batch : List Letter) → Carries layout scheme old sent (Some batch) → BatchPut to batch old new → Carries layout scheme new sent None
 passed layout scheme old new sent to batch carries put =

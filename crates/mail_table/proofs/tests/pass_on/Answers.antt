@@ -13,7 +13,7 @@ put-requires-clause-honest c =
     let may = carries.may_pass_on in
     let first = is_first batch may.0 _ may.1 c.letter_at-to.ensures in
     honest_next i.layout i.scheme i.pass i.sent next batch carries may.0 may.1 may.2 c.next_hop-next.ensures.within
-        (c.next_hop-next.ensures.value ∙ (λ k. hop i.layout i.scheme (c.rank.ensures.value k) (first k).to))
+    (c.next_hop-next.ensures.value ∙ (λ k. hop i.layout i.scheme (c.rank.ensures.value k) (first k).to))
 
 pub invariant_of-result-in-Ok : goal.invariant_of-result-in-Ok
 invariant_of-result-in-Ok c =

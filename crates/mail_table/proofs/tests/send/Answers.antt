@@ -11,7 +11,7 @@ pub put-requires-clause-honest : goal.put-requires-clause-honest
 put-requires-clause-honest c =
     let i = c.carrier.inside in let next = c.next_hop-next.result in
     subst (λ (batch : List Letter). first_broken (local_of i.pass) (Puts next batch) ≡ None) (sym c.in_ok-batch.ensures)
-        (honest_own i.layout i.scheme i.pass i.sent next i.waiting c.carrier.invariant _ refl c.rank-here.ensures.value (search rules) (search rules) (search rules) (search rules))
+    (honest_own i.layout i.scheme i.pass i.sent next i.waiting c.carrier.invariant _ refl c.rank-here.ensures.value (search rules) (search rules) (search rules) (search rules))
 
 pub invariant_of-carrier : goal.invariant_of-carrier
 invariant_of-carrier c =

@@ -10,7 +10,7 @@ invariant_of-result-then-to-here c =
     let i = c.carrier.inside in let batch = c.in-Some.batch in
     let one : length batch ≡ 1 = search rules in
     kept_it i.layout i.scheme i.pass c.take.new.pass i.sent c.args.from i.waiting batch (letter_of c.letter_at-letter.result) c.carrier.invariant (search rules)
-        (one_of batch (letter_of c.letter_at-letter.result) one c.letter_at-letter.ensures) (c.if-to-here.true ∙ c.rank-here.ensures.value) c.in-Some.ensures.took
+    (one_of batch (letter_of c.letter_at-letter.result) one c.letter_at-letter.ensures) (c.if-to-here.true ∙ c.rank-here.ensures.value) c.in-Some.ensures.took
 
 pub invariant_of-result-2 : goal.invariant_of-result-2
 invariant_of-result-2 c =
