@@ -8,6 +8,7 @@ use msg_codec::{Batch, LetterRef};
 use std::alloc::Global;
 use std::marker::Model;
 use std::test::*;
+use std::thread::{Threads, join};
 use world_core::{Limits, PutBack};
 use ygm_route::{Layout, Scheme, next_hop};
 
@@ -403,4 +404,151 @@ fn take_all(
         third = turn(table, third)?;
     }
     None
+}
+
+/// Rank 0 sends and the others take, in two threads.
+fn at_once<R: Threads + Sync>(
+    rt: &R,
+    alloc: Global,
+    table: &MailTable,
+    source: Carrier,
+    others: (Carrier, Carrier, Carrier),
+    count: u64,
+) -> Option<(Carrier, (Carrier, Carrier, Carrier))>
+    requires source { IsPassOf table.now source.pass × (source.layout.ranks ≡ 4) }
+    requires passes { IsPassOf table.now others.0.pass × IsPassOf table.now others.1.pass × IsPassOf table.now others.2.pass }
+    requires four { (others.0.layout.ranks ≡ 4) × (others.1.layout.ranks ≡ 4) × (others.2.layout.ranks ≡ 4) }
+    ensures source { IfSome result (λ r. SameCarrier source r.0) }
+    ensures others { IfSome result (λ r. SameCarrier others.0 r.1.0 × SameCarrier others.1 r.1.1 × SameCarrier others.2 r.1.2) }
+{
+    let (source, others) = join(
+        rt,
+        move || -> Option<Carrier>
+            requires { IsPassOf table.now source.pass × (source.layout.ranks ≡ 4) }
+            ensures { IfSome result (λ r. SameCarrier source r) }
+        { send_all(alloc, table, source, count) },
+        move || -> Option<(Carrier, Carrier, Carrier)>
+            requires { IsPassOf table.now others.0.pass × IsPassOf table.now others.1.pass × IsPassOf table.now others.2.pass × (others.0.layout.ranks ≡ 4) × (others.1.layout.ranks ≡ 4) × (others.2.layout.ranks ≡ 4) }
+            ensures { IfSome result (λ r. SameCarrier others.0 r.0 × SameCarrier others.1 r.1 × SameCarrier others.2 r.2) }
+        { take_all(table, others, count) },
+    );
+    Some((source?, others?))
+}
+
+/// Closes a table of four ranks.
+fn close_four(
+    alloc: Global,
+    table: MailTable,
+    source: Carrier,
+    others: (Carrier, Carrier, Carrier),
+) -> Option<()>
+    requires four { table.settings.layout.ranks ≡ 4 }
+    requires source { IsPassOf table source.pass × (source.pass.rank ≡ 0) }
+    requires first { IsPassOf table others.0.pass × (others.0.pass.rank ≡ 1) }
+    requires second { IsPassOf table others.1.pass × (others.1.pass.rank ≡ 2) }
+    requires third { IsPassOf table others.2.pass × (others.2.pass.rank ≡ 3) }
+{
+    let (first, second, third) = others;
+    let all = vec![in alloc;
+        pass_of(source),
+        pass_of(first),
+        pass_of(second),
+        pass_of(third),
+    ]
+    .ok()?;
+    table.close(all).holds();
+    Some(())
+}
+
+/// Two threads carry so many letters from rank 0 to each of the ranks 1 to 3. Returns how many each got.
+fn carry<R: Threads + Sync>(
+    rt: &R,
+    alloc: Global,
+    scheme: Scheme,
+    ring: u32,
+    count: u64,
+) -> Result<(u64, u64, u64), Fail>
+    requires some { 1 ≤ ring }
+    requires few { ring ≤ 4 }
+{
+    let layout = Layout::new(4, 2)?;
+    let (table, mut passes) = MailTable::new(alloc, layout, scheme, ring, Limits::FULL)?;
+    let third = next_carrier(&table, &mut passes, layout, scheme).ok_or("four passes")?;
+    let second = next_carrier(&table, &mut passes, layout, scheme).ok_or("four passes")?;
+    let first = next_carrier(&table, &mut passes, layout, scheme).ok_or("four passes")?;
+    let source = next_carrier(&table, &mut passes, layout, scheme).ok_or("four passes")?;
+    let (source, others) = at_once(rt, alloc, &table, source, (first, second, third), count).ok_or(
+        "all letters come",
+    )?;
+    let got = (others.0.got, others.1.got, others.2.got);
+    close_four(alloc, table, source, others).ok_or("there is memory for a list")?;
+    Ok(got)
+}
+
+#[test]
+fn two_threads_carry_letters_in_every_scheme(rt: HostRuntime) -> Result<(), Fail> {
+    let alloc = rt.alloc();
+    let direct = carry(&rt, alloc, Scheme::Direct, 4, 100_000)?;
+    let remote = carry(&rt, alloc, Scheme::Nr, 1, 50_000)?;
+    let local = carry(&rt, alloc, Scheme::Nlnr, 4, 50_000)?;
+    assert_eq!(rt;
+        (direct, remote, local),
+        (
+            (100_000, 100_000, 100_000),
+            (50_000, 50_000, 50_000),
+            (50_000, 50_000, 50_000)
+        )
+    );
+    Ok(())
+}
+
+/// Looks at the stop until it is raised.
+fn look(table: &MailTable, pass: Pass) -> (Pass, bool)
+    requires { IsPassOf table.now pass }
+    ensures { IsPassOf table.now result.0 }
+{
+    let mut pass = pass;
+    for _ in 0..u64::MAX {
+        if table.stopped(&mut pass) {
+            return (pass, true);
+        }
+    }
+    (pass, false)
+}
+
+/// One rank raises the stop, and another looks for it, in two threads. Returns whether it was raised before, and after.
+fn stop<R: Threads + Sync>(rt: &R, table: &MailTable, raiser: Pass, looker: Pass) -> (bool, bool)
+    requires raiser { IsPassOf table.now raiser }
+    requires looker { IsPassOf table.now looker }
+{
+    let mut raiser = raiser;
+    let mut looker = looker;
+    let before = table.stopped(&mut looker) || table.stopped(&mut raiser);
+    let (_, (_, after)) = join(
+        rt,
+        move || -> Pass
+            requires { IsPassOf table.now raiser }
+        {
+            table.raise_stop(&mut raiser);
+            raiser
+        },
+        move || -> (Pass, bool)
+            requires { IsPassOf table.now looker }
+        { look(table, looker) },
+    );
+    (before, after)
+}
+
+#[test]
+fn a_stop_is_seen_in_another_thread(rt: HostRuntime) -> Result<(), Fail> {
+    let alloc = rt.alloc();
+    let layout = Layout::new(2, 1)?;
+    let (table, mut passes) = MailTable::new(alloc, layout, Scheme::Direct, 4, Limits::FULL)?;
+    let looker = next_carrier(&table, &mut passes, layout, Scheme::Direct).ok_or("two passes")?;
+    let raiser = next_carrier(&table, &mut passes, layout, Scheme::Direct).ok_or("two passes")?;
+    assert_eq!(rt;
+        stop(&rt, &table, pass_of(raiser), pass_of(looker)),
+        (false, true)
+    );
+    Ok(())
 }
