@@ -1,0 +1,5 @@
+pub mod AsCalled
+pub mod Between
+pub mod Dealing
+pub mod Gathering
+pub mod Passes

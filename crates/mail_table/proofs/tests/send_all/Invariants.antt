@@ -1,0 +1,5 @@
+use Rattle.mail_table.specs.Carrier.{SameCarrier}
+use Rattle.mail_table.proofs.tests.send_all.Given as goal
+
+abbrev pub invariant-loop-number : goal.invariant-loop-number
+invariant-loop-number l = SameCarrier l.fn.carrier l.carrier

@@ -1,0 +1,10 @@
+pub mod Words
+pub mod Views
+pub mod Table
+pub mod Calls
+pub mod Carrier
+pub mod Serving
+pub mod OneLink
+pub mod Rule
+pub mod Steps
+pub mod Seats
