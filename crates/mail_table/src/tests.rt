@@ -488,15 +488,15 @@ fn carry<R: Threads + Sync>(
 #[test]
 fn two_threads_carry_letters_in_every_scheme(rt: HostRuntime) -> Result<(), Fail> {
     let alloc = rt.alloc();
-    let direct = carry(&rt, alloc, Scheme::Direct, 4, 100_000)?;
-    let remote = carry(&rt, alloc, Scheme::Nr, 1, 50_000)?;
-    let local = carry(&rt, alloc, Scheme::Nlnr, 4, 50_000)?;
+    let direct = carry(&rt, alloc, Scheme::Direct, 4, 10_000)?;
+    let remote = carry(&rt, alloc, Scheme::Nr, 1, 5_000)?;
+    let local = carry(&rt, alloc, Scheme::Nlnr, 4, 5_000)?;
     assert_eq!(rt;
         (direct, remote, local),
         (
-            (100_000, 100_000, 100_000),
-            (50_000, 50_000, 50_000),
-            (50_000, 50_000, 50_000)
+            (10_000, 10_000, 10_000),
+            (5_000, 5_000, 5_000),
+            (5_000, 5_000, 5_000)
         )
     );
     Ok(())

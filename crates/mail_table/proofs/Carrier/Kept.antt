@@ -1,6 +1,6 @@
 -- A carrier after a put and after a take.
-use Rattle.std.proofs.Common.{◌≡◌, ◌≢◌, ℕ, ◌+◌, ◌<◌, Bool, true, false, ◌&&◌, nat_eq, cond, eq-eqb, Option, None, Some, List, [], ◌∷◌, ◌++◌, refl, sym, ap, ◌∙◌, subst, append-nil, arith, length, slice_get}
-use Rattle.std.proofs.lemmas.Bool.{cases_eq, false_from_ne_true, ne_eqb}
+use Rattle.std.proofs.Common.{◌≡◌, ◌≢◌, ℕ, ◌+◌, true, false, nat_eq, eq-eqb, Option, None, Some, List, [], ◌∷◌, ◌++◌, refl, sym, ap, ◌∙◌, subst, append-nil, arith, length, slice_get}
+use Rattle.std.proofs.lemmas.Bool.{false_from_ne_true, ne_eqb}
 use Rattle.std.proofs.Math.Bool.{and-false}
 use Rattle.std.proofs.lemmas.Option.{same_Some}
 use Rattle.msg_codec.specs.Control.{is_count}
@@ -10,7 +10,7 @@ use Rattle.ygm_route.specs.Layout.{Shape}
 use Rattle.world_core.specs.declared.entry.Entry.{Entry}
 use Rattle.world_core.specs.declared.entry.Entry.TheVariants.{Put, Took}
 use Rattle.world_core.specs.Counts.{counts}
-use Rattle.world_core.specs.Pairs.{is_data, is_of_pair, of_pair, own_count, pair_put, pair_taken, sent_number}
+use Rattle.world_core.specs.Pairs.{is_data, is_of_pair, of_pair, pair_put}
 use Rattle.world_core.proofs.Counts.AfterPut.{counts-none}
 use Rattle.world_core.proofs.Deeds.TwoKinds.{data_not_count}
 use Rattle.world_core.proofs.Pairs.Appended.{pair_put-put, pair_put-took, pair_taken-put, pair_taken-took}
@@ -89,24 +89,7 @@ module _ (layout : Shape) (scheme : Scheme) (pass : PassState) (sent other : ℕ
   pub after_waiting : Carries layout scheme pass sent None → (batch : List Letter) (l : Letter) → batch ≡ l ∷ [] → IsForOthers layout pass.rank l → Carries layout scheme (took_of batch) sent (Some batch)
   after_waiting carries batch l is others = took batch (Some batch) carries (λ s d _ _. refl) (l, is, others)
 
--- a put or a take that did nothing to the log
-pub after_look : (layout : Shape) (scheme : Scheme) (pass : PassState) (sent : ℕ) (waiting : Option (List Letter)) (heads tails : List Loads) → Carries layout scheme pass sent waiting →
-    Carries layout scheme (record pass { heads = heads; tails = tails }) sent waiting
-after_look layout scheme pass sent waiting heads tails carries = record {
-  layout_is = carries.layout_is;
-  scheme_is = carries.scheme_is;
-  within = carries.within;
-  sent_is = carries.sent_is;
-  uncounted = carries.uncounted;
-  passed_on = carries.passed_on;
-  may_pass_on = carries.may_pass_on;
-}
-
 -- ---- by the outcomes of the table's calls
-
-pub looked : (layout : Shape) (scheme : Scheme) (old new : PassState) (sent : ℕ) (waiting : Option (List Letter)) (heads tails : List Loads) → new ≡ record old { heads = heads; tails = tails } →
-    Carries layout scheme old sent waiting → Carries layout scheme new sent waiting
-looked layout scheme old new sent waiting heads tails e carries = subst (λ p. Carries layout scheme p sent waiting) (sym e) (after_look layout scheme old sent waiting heads tails carries)
 
 -- a waiting batch is none where there is none
 pub none_waits : (layout : Shape) (scheme : Scheme) (pass : PassState) (sent : ℕ) (waiting : Option (List Letter)) → waiting ≡ None → Carries layout scheme pass sent waiting → Carries layout scheme pass sent None

@@ -1,5 +1,5 @@
-use Rattle.std.proofs.Common.{rules, ◌≡◌, ℕ, List, [], ◌∷◌, length, sym, subst, refl, ap, ◌∙◌}
-use Rattle.mail_table.specs.Table.{AreAllPasses, PassState}
+use Rattle.std.proofs.Common.{rules, ◌≡◌, [], ◌∷◌, sym, subst}
+use Rattle.mail_table.specs.Table.{AreAllPasses}
 use Rattle.mail_table.proofs.Carrier.Fresh.{are_all}
 use Rattle.mail_table.proofs.tests.close_two.Goals as goal
 

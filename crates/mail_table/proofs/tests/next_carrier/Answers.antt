@@ -1,4 +1,4 @@
-use Rattle.std.proofs.Common.{rules, ◌≡◌, length, ap}
+use Rattle.std.proofs.Common.{ap}
 use Rattle.mail_table.specs.Table.{PassState}
 use Rattle.mail_table.proofs.Carrier.Fresh.{before_fresh, last_carries, last_fresh}
 use Rattle.mail_table.proofs.tests.next_carrier.Goals as goal

@@ -1,5 +1,4 @@
-use Rattle.std.proofs.Common.{rules, ◌≡◌, ℕ, None, Some, List, [], ◌∷◌, refl, sym, ap, ◌∙◌, subst}
-use Rattle.msg_codec.specs.declared.letter.Letter.{Letter}
+use Rattle.std.proofs.Common.{◌∙◌, subst}
 use Rattle.ygm_route.specs.Hop.{hop}
 use Rattle.mail_table.specs.Carrier.{Carries}
 use Rattle.mail_table.proofs.Carrier.Honest.{honest_next}

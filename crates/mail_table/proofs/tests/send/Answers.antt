@@ -1,4 +1,4 @@
-use Rattle.std.proofs.Common.{rules, ◌≡◌, ℕ, ◌+◌, None, List, [], ◌∷◌, refl, sym, ap, ◌∙◌, subst}
+use Rattle.std.proofs.Common.{rules, ◌≡◌, None, List, refl, sym, subst}
 use Rattle.msg_codec.specs.declared.letter.Letter.{Letter}
 use Rattle.world_core.specs.Rules.{first_broken}
 use Rattle.world_core.specs.Rules.Deed.{Puts}

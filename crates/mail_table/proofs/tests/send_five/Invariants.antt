@@ -1,4 +1,4 @@
-use Rattle.std.proofs.Common.{◌≡◌, ℕ, ◌≤◌}
+use Rattle.std.proofs.Common.{◌≤◌}
 use Rattle.mail_table.specs.Carrier.{SameCarrier}
 use Rattle.mail_table.proofs.tests.send_five.Given as goal
 

@@ -1,5 +1,4 @@
-use Rattle.std.proofs.Common.{rules, arith, ◌≡◌, ◌≢◌, ℕ, ◌<◌, None, Some, List, [], ◌∷◌, length, slice_get, lt-ltb, refl, sym, ap, ◌∙◌, subst}
-use Rattle.msg_codec.specs.declared.letter.Letter.{Letter}
+use Rattle.std.proofs.Common.{rules, arith, ◌≡◌, length, lt-ltb, sym, ◌∙◌}
 use Rattle.msg_codec.specs.Letter.{letter_of}
 use Rattle.mail_table.specs.Carrier.{IsForOthers}
 use Rattle.mail_table.proofs.Carrier.Kept.{it_waits, kept_it, one_of}
