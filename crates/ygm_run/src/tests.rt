@@ -14,7 +14,7 @@ use std::process::Abort;
 use std::sync::Wait;
 use std::test::Fail;
 use ygm_io::{CalmFiles, CalmSink, MemFiles, MemSink, MemSource};
-use ygm_route::{Layout, LayoutFault, Scheme};
+use ygm_route::{Layout, Scheme};
 
 // What a run over objects in memory ends with.
 #[derive(Drop)]
@@ -135,20 +135,16 @@ fn calm_files_are_counted(rt: HostRuntime) -> Result<(), Fail> {
     Ok(())
 }
 
-// Tally over so many ranks.
-fn tally_over(ranks: u32) -> Result<Settings, LayoutFault> {
-    Ok(Settings {
-        kind: JobKind::Tally,
-        layout: Layout::new(ranks, 1)?,
-        scheme: Scheme::Direct,
-    })
-}
-
 #[test]
 fn a_rank_without_a_file_reads_nothing(rt: HostRuntime) -> Result<(), Fail> {
     let alloc = rt.alloc();
+    let settings = Settings {
+        kind: JobKind::Tally,
+        layout: Layout::new(3, 1)?,
+        scheme: Scheme::Direct,
+    };
     let sources = vec![in alloc; MemSource::new(alloc, b"b\na\nb\n", &[])?]?;
-    let Ran { outcome, sources } = run_job(&rt, alloc, &tally_over(3)?, sources);
+    let Ran { outcome, sources } = run_job(&rt, alloc, &settings, sources);
     assert_eq!(rt; sources.len(), 1);
     assert_eq!(rt; sources[0].left(), b"".as_slice());
     let shards = outcome.expect(&rt, "it has shards");
@@ -163,8 +159,13 @@ fn a_rank_without_a_file_reads_nothing(rt: HostRuntime) -> Result<(), Fail> {
 #[test]
 fn a_job_ends_with_the_fault_of_an_input(rt: HostRuntime) -> Result<(), Fail> {
     let alloc = rt.alloc();
+    let settings = Settings {
+        kind: JobKind::Tally,
+        layout: Layout::new(2, 1)?,
+        scheme: Scheme::Direct,
+    };
     let sources = vec![in alloc; MemSource::new(alloc, b"b\na\nb\n", &[0])?]?;
-    let Ran { outcome, sources } = run_job(&rt, alloc, &tally_over(2)?, sources);
+    let Ran { outcome, sources } = run_job(&rt, alloc, &settings, sources);
     assert_eq!(rt; outcome.err(), Some(JobFault::Read { rank: 0 }));
     assert_eq!(rt; sources[0].left(), b"b\na\nb\n".as_slice());
     Ok(())
