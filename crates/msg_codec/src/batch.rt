@@ -93,6 +93,13 @@ impl Batch {
         }
     }
 
+    /// Reserves memory for letters whose encodings have this many bytes more. The letters are unchanged.
+    pub fn reserve(&mut self, bytes: usize) -> Result<(), AllocError>
+        ensures { self.new ≡ self.old }
+    {
+        self.bytes.reserve(bytes)
+    }
+
     /// Puts a letter last. Out of memory, the batch is unchanged.
     pub fn push(&mut self, letter: LetterRef<'_>) -> Result<(), AllocError>
         ensures last { OnOk result (self.new ≡ self.old ++ letter_of letter.entry ∷ []) }

@@ -65,6 +65,15 @@ fn appended(alloc: Global, bytes: [u8; 37], letter: &LetterRef<'_>) -> Result<Ve
     Ok(all)
 }
 
+/// The bytes in memory, which has room for so many more.
+fn with_room(alloc: Global, bytes: [u8; 37], more: usize) -> Result<Vec<u8>, AllocError>
+    ensures { IfOk result (λ all. all.items ≡ bytes) }
+{
+    let mut all = Vec::from_slice(alloc, &bytes)?;
+    all.reserve(more)?;
+    Ok(all)
+}
+
 impl Encoding {
     /// No bytes. It takes no memory.
     pub(crate) fn empty(alloc: Global) -> Encoding
@@ -93,6 +102,20 @@ impl Encoding {
             Kept::InMemory(ref mut bytes) => append(bytes, letter),
             Kept::InPlace(alloc, bytes) => {
                 let all = appended(alloc, bytes, letter)?;
+                self.kept = Kept::InMemory(all);
+                Ok(())
+            }
+        }
+    }
+
+    /// Reserves memory for this many bytes more.
+    pub(crate) fn reserve(&mut self, bytes: usize) -> Result<(), AllocError>
+        ensures { self.new ≡ self.old }
+    {
+        match self.kept {
+            Kept::InMemory(ref mut kept) => kept.reserve(bytes),
+            Kept::InPlace(alloc, kept) => {
+                let all = with_room(alloc, kept, bytes)?;
                 self.kept = Kept::InMemory(all);
                 Ok(())
             }

@@ -32,6 +32,7 @@ fn a_batch_is_the_spelling_of_its_letters(rt: HostRuntime) -> Result<(), Fail> {
     };
     assert_eq!(rt; letter.as_ref().spelled_len(), 15);
     batch.push(letter.as_ref())?;
+    batch.reserve(13)?;
     assert_eq!(rt; batch.as_bytes(), AB.as_slice());
     batch.push(LetterRef {
         to: 258,
