@@ -14,7 +14,7 @@ mod whole;
 mod wire;
 
 pub use batch::Batch;
-pub use body::{Body, Body2, MAX_BODY, length_field};
+pub use body::{Body, Body2, IN_PLACE, MAX_BODY, length_field};
 pub use control::{Control, control_of};
 pub use counter::{AtLimit, Counter};
 pub use laws::{

@@ -1,8 +1,8 @@
-ghost use Rattle.std.specs.Prelude.{◌≤◌, length};
+ghost use Rattle.std.specs.Prelude.{◌≡◌, ◌≤◌, length, IfOk};
 ghost use Rattle.msg_codec.specs.Limits.{max_body};
 
 use super::*;
-use std::alloc::AllocError;
+use std::alloc::{AllocError, Global};
 use std::test::*;
 
 const AB: [u8; 15] = [2, 0, 0, 0, 0, 0, 0, 0, 1, 2, 0, 0, 0, 97, 98];
@@ -192,12 +192,43 @@ fn a_counter_stops_at_its_limit(rt: HostRuntime) -> Result<(), Fail> {
 }
 
 #[test]
-fn bodies_keep_their_bytes(rt: HostRuntime) -> Result<(), Fail> {
-    let body = Body::from_vec(b"ab".to_vec(rt.alloc())?);
-    assert_eq!(rt; body.as_slice(), b"ab".as_slice());
-    let text = Body2::from_vec(body.into_vec());
+fn a_text_keeps_its_bytes(rt: HostRuntime) -> Result<(), Fail> {
+    let text = Body2::from_vec(b"ab".to_vec(rt.alloc())?);
     assert_eq!(rt; text.as_slice(), b"ab".as_slice());
     assert_eq!(rt; text.into_vec().as_slice(), b"ab".as_slice());
+    Ok(())
+}
+
+// So many bytes, which repeat after 251.
+fn bytes_of(alloc: Global, len: usize) -> Result<Vec<u8>, AllocError>
+    ensures { IfOk result (λ bytes. length bytes.items ≡ len) }
+{
+    let mut bytes = Vec::new(alloc);
+    bytes.resize(len, 0)?;
+    for (index, byte) in bytes.iter_mut().enumerate() {
+        *byte = (index % 251) as u8;
+    }
+    Ok(bytes)
+}
+
+// Whether a body of so many bytes exposes them, copied, appended and moved.
+fn is_kept(alloc: Global, len: usize) -> Result<bool, AllocError>
+    requires { len ≤ max_body }
+{
+    let bytes = bytes_of(alloc, len)?;
+    let copied = Body::of(alloc, &bytes)?;
+    let mut body = Body::with_capacity(alloc, 1)?;
+    body.append(copied.as_slice())?;
+    let moved = Body::from_vec(body.into_vec()?);
+    Ok(moved.as_slice() == bytes.as_slice())
+}
+
+#[test]
+fn bodies_in_place_and_in_memory_keep_their_bytes(rt: HostRuntime) -> Result<(), Fail> {
+    let alloc = rt.alloc();
+    let short = (is_kept(alloc, 0)?, is_kept(alloc, 1)?, is_kept(alloc, 96)?);
+    let long = (is_kept(alloc, 97)?, is_kept(alloc, 1_000_000)?);
+    assert_eq!(rt; (short, long), ((true, true, true), (true, true)));
     Ok(())
 }
 
