@@ -1,2 +1,3 @@
+pub mod BatchPut
 pub mod EachRank
 pub mod OnePut
