@@ -8,10 +8,9 @@ ghost use Rattle.counting_set.specs.Counting.{add_letter};
 ghost use Rattle.counting_set.specs.Owner as spec;
 
 use crate::counting::{ADD, MAX_ITEM};
-use crate::item_count::put_item_count;
+use crate::item_count::item_count_body;
 use crate::owner::owner_of_key;
 use comm_rank::{Comm, CommFault, Handler};
-use msg_codec::Body;
 use std::alloc::Global;
 
 /// Adds one of an item, by a letter to the rank that owns it. At `CommFault::CountFull` the rank has sent as many
@@ -30,8 +29,7 @@ pub fn count_insert<H: Handler>(
     ensures never_stopped { IfErr result NeverStopped }
     ensures agrees { (log : List Entry) → Agrees H.apply H.start comm.old log → Agrees H.apply H.start comm.new log }
 {
-    let mut bytes = Vec::new(alloc);
-    put_item_count(item, 1, &mut bytes)?;
+    let body = item_count_body(alloc, item, 1)?;
     let owner = owner_of_key(item, comm.ranks());
-    comm.send(owner, ADD, Body::from_vec(bytes))
+    comm.send(owner, ADD, body)
 }

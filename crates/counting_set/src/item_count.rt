@@ -1,25 +1,25 @@
 //! How an item and its count are encoded in the body of a letter that adds to a counting set.
-ghost use Rattle.std.specs.Prelude.{◌≡◌, ◌≢◌, ◌<◌, ◌≤◌, ◌^◌, ℕ, List, ◌++◌, length, IfSome, IfNone, OnOk, OnErr};
+ghost use Rattle.std.specs.Prelude.{◌≡◌, ◌≢◌, ◌<◌, ◌≤◌, ◌+◌, ◌^◌, ℕ, List, length, IsOk, IfOk, IfSome, IfNone};
 ghost use Rattle.std.specs.Option.{option_map};
 ghost use Rattle.msg_codec.specs.Limits.{max_body};
 ghost use Rattle.msg_codec.specs.Reading.{IsReading, body_reading, number_reading, pair_reading};
 ghost use Rattle.counting_set.specs.ItemCount.{item_count_of, spelled_item_count};
 
-use msg_codec::{WireFault, body_at, length_field, number_at};
-use std::alloc::AllocError;
+use msg_codec::{Body, IN_PLACE, WireFault, body_at, length_field, number_at};
+use std::alloc::{AllocError, Global};
 
-/// Appends the encoding of a borrowed item and its count, which is that of the pair of them. Out of memory,
-/// it appends nothing.
-pub fn put_item_count(item: &[u8], count: u64, into: &mut Vec<u8>) -> Result<(), AllocError>
-    requires { length item.now ≤ max_body }
-    ensures appended { OnOk result (into.new.items ≡ into.old.items ++ spelled_item_count item.now count) }
-    ensures unchanged { OnErr result (into.new.items ≡ into.old.items) }
+/// The body that encodes a borrowed item and its count, as the pair of them is encoded. A short one is kept in
+/// place, and takes no memory.
+pub fn item_count_body(alloc: Global, item: &[u8], count: u64) -> Result<Body, AllocError>
+    requires { length item.now + 12 ≤ max_body }
+    ensures value { IfOk result (λ body. body ≡ spelled_item_count item.now count) }
+    ensures in_place { length item.now + 12 ≤ IN_PLACE → IsOk result }
 {
-    into.reserve(12 + item.len())?;
-    into.extend_from_slice(&length_field(item))?;
-    into.extend_from_slice(item)?;
-    into.extend_from_slice(&count.to_le_bytes())?;
-    Ok(())
+    let mut body = Body::with_capacity(alloc, 12 + item.len())?;
+    body.append(&length_field(item))?;
+    body.append(item)?;
+    body.append(&count.to_le_bytes())?;
+    Ok(body)
 }
 
 // The item and the count that the bytes begin with, and the length of their encoding.

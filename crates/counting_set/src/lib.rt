@@ -9,7 +9,7 @@ mod owner;
 
 pub use counting::{Counting, MAX_ITEM};
 pub use insert::count_insert;
-pub use item_count::{put_item_count, read_item_count};
+pub use item_count::{item_count_body, read_item_count};
 pub use laws::{
     a_new_item_goes_last, adds_of_one_are_counted, an_insert_adds_one, counting_sends_nothing,
     counts_are_sums, item_counts_are_pairs, item_counts_are_read_again, letters_add_up,

@@ -22,9 +22,8 @@ use ygm_route::{Layout, Scheme};
 fn add(alloc: Global, counting: &mut Counting, item: &[u8], count: u64) -> Result<u64, AllocError>
     requires { length item.now ≤ 100 }
 {
-    let mut body = Vec::new(alloc);
-    put_item_count(item, count, &mut body)?;
-    run(alloc, counting, 1, &body)
+    let body = item_count_body(alloc, item, count)?;
+    run(alloc, counting, 1, body.as_slice())
 }
 
 // Runs a letter, and returns how many letters the handler sent then.
@@ -146,9 +145,8 @@ fn is_added(alloc: Global, len: usize) -> Result<bool, AllocError>
 {
     let mut counting = Counting::new(alloc)?;
     let item = item_of(alloc, len)?;
-    let mut body = Vec::new(alloc);
-    put_item_count(&item, 1, &mut body)?;
-    run(alloc, &mut counting, 1, &body)?;
+    let body = item_count_body(alloc, &item, 1)?;
+    run(alloc, &mut counting, 1, body.as_slice())?;
     Ok(counting.len_here() == 1)
 }
 

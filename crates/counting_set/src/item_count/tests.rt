@@ -8,15 +8,14 @@ const X_ONCE: [u8; 13] = [1, 0, 0, 0, 120, 1, 0, 0, 0, 0, 0, 0, 0];
 
 #[test]
 fn an_item_and_its_count(rt: HostRuntime) -> Result<(), Fail> {
-    let mut bytes = Vec::new(rt.alloc());
-    put_item_count(b"x", 1, &mut bytes)?;
-    assert_eq!(rt; bytes.as_slice(), X_ONCE.as_slice());
+    let body = item_count_body(rt.alloc(), b"x", 1)?;
+    assert_eq!(rt; body.as_slice(), X_ONCE.as_slice());
     let (item, count) = read_item_count(&X_ONCE).ok_or("it is an item and a count")?;
     assert_eq!(rt; item, b"x".as_slice());
     assert_eq!(rt; count, 1);
     assert!(rt; read_item_count(&X_ONCE[..12]).is_none());
-    bytes.push(0)?;
-    assert!(rt; read_item_count(&bytes).is_none());
+    let longer = [1, 0, 0, 0, 120, 1, 0, 0, 0, 0, 0, 0, 0, 0];
+    assert!(rt; read_item_count(&longer).is_none());
     Ok(())
 }
 

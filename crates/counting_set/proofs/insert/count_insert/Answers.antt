@@ -1,6 +1,5 @@
-use Rattle.std.proofs.Common.{◌≡◌, ◌++◌, OnOk, sym, ap, ◌∙◌, subst}
+use Rattle.std.proofs.Common.{◌≡◌, OnOk, sym, ap, ◌∙◌, subst}
 use Rattle.comm_rank.specs.Rank.{HasSent}
-use Rattle.counting_set.specs.ItemCount.{spelled_item_count}
 use Rattle.counting_set.specs.Owner as spec
 use Rattle.counting_set.proofs.insert.count_insert.Goals as goal
 
@@ -12,8 +11,6 @@ returns-clause-sent g c =
     let owner = c.owner_of_key-owner.result in
     let at : owner ≡ spec.owner_of_key c.args.item.now c.args.comm.now.layout.ranks =
     c.owner_of_key-owner.ensures.value ∙ ap (spec.owner_of_key c.args.item.now) c.ranks.ensures.value in
-    let body : c.from_vec.result ≡ spelled_item_count c.args.item.now 1 =
-    c.from_vec.ensures ∙ c.in_ok-put_item_count.ensures.appended ∙ ap (λ w. w ++ spelled_item_count c.args.item.now 1) c.new-bytes.ensures.items in
     rw (sym at)
     (subst (λ b. OnOk c.send.result (HasSent c.args.comm.now c.send.new.self (record { to = owner; from = c.args.comm.now.here; tag = 1; body = b })))
-    body c.send.ensures.sent)
+    c.in_ok-body.ensures.value c.send.ensures.sent)
