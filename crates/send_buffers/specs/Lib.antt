@@ -1,0 +1,5 @@
+pub mod Buffers
+pub mod Calls
+pub mod Laws
+pub mod Limits
+pub mod Stored
