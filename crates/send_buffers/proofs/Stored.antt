@@ -1,0 +1,2 @@
+pub mod EachChanged
+pub mod OneChanged
