@@ -13,7 +13,7 @@ use std::mem;
 #[derive(Drop)]
 pub(crate) struct HopQueue {
     closed: VecDeque<Batch>,
-    open: Batch,
+    gathering: Batch,
 }
 
 impl Model for HopQueue {
@@ -24,7 +24,7 @@ impl Model for HopQueue {
     ghost Value = { Stored };
 
     ghost view = { λ queue. record {
-      held = record { closed = queue.closed.items; «open» = queue.open };
+      held = record { closed = queue.closed.items; «open» = queue.gathering };
       room = deque_capacity queue.closed - deque_len queue.closed;
     } };
 }
@@ -46,7 +46,7 @@ impl HopQueue {
     {
         HopQueue {
             closed: VecDeque::new(alloc),
-            open: Batch::empty(alloc),
+            gathering: Batch::empty(alloc),
         }
     }
 
@@ -54,10 +54,10 @@ impl HopQueue {
     fn may_gain(&self, limit: usize, letter: LetterRef<'_>) -> bool
         ensures { result ≡ may_join limit self.now.held.open (letter_of letter.entry) }
     {
-        if self.open.count() == 0 {
+        if self.gathering.count() == 0 {
             return true;
         }
-        let taken = self.open.bytes_len();
+        let taken = self.gathering.bytes_len();
         taken <= limit && letter.spelled_len() <= limit - taken
     }
 
@@ -66,10 +66,10 @@ impl HopQueue {
         ensures ok { OnOk result (self.new.held ≡ record self.old.held { «open» = self.old.held.open ++ letter_of letter.entry ∷ [] }) }
         ensures err { OnErr result (self.new.held ≡ self.old.held) }
     {
-        if self.open.count() == 0 {
-            self.open.reserve(limit.max(letter.spelled_len()))?;
+        if self.gathering.count() == 0 {
+            self.gathering.reserve(limit.max(letter.spelled_len()))?;
         }
-        self.open.push(letter)
+        self.gathering.push(letter)
     }
 
     /// Adds a letter to the open batch, or to the next one.
@@ -104,7 +104,7 @@ impl HopQueue {
         requires { 1 ≤ self.old.room }
         ensures { self.new.held ≡ record { closed = self.old.held.closed ++ self.old.held.open ∷ []; «open» = next } }
     {
-        let full = mem::replace(&mut self.open, next);
+        let full = mem::replace(&mut self.gathering, next);
         self.closed.push_back_reserved(full);
     }
 
@@ -113,7 +113,7 @@ impl HopQueue {
         requires { 1 ≤ self.old.room }
         ensures { self.new.held ≡ closed_up self.old.held }
     {
-        if self.open.count() > 0 {
+        if self.gathering.count() > 0 {
             self.close(Batch::empty(alloc));
         }
     }
@@ -148,6 +148,6 @@ impl HopQueue {
         ensures none { result ≡ false → self.now.held ≡ empty_queue }
         ensures some { self.now.held ≡ empty_queue → result ≡ false }
     {
-        self.open.count() > 0 || !self.closed.is_empty()
+        self.gathering.count() > 0 || !self.closed.is_empty()
     }
 }

@@ -6,3 +6,6 @@ mod hop_queue;
 pub mod laws;
 
 pub use buffers::{Buffers, MAX_BUFFER, MIN_BUFFER};
+
+#[cfg(test)]
+mod tests;
