@@ -3,7 +3,7 @@ pub mod AfterPuts
 pub mod AfterSend
 pub mod AfterTake
 pub mod Arrived
-pub mod Direct
 pub mod Fresh
 pub mod MayTurn
+pub mod NoneReturns
 pub mod Served

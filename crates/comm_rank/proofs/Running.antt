@@ -1,4 +1,7 @@
+pub mod GainsBoth
 pub mod Keeps
-pub mod RunAll
+pub mod Passed
+pub mod Stuck
 pub mod TakenFrom
 pub mod TookBelow
+pub mod Waiting

@@ -1,2 +1,4 @@
-pub mod Apart
-pub mod Queues
+pub mod Added
+pub mod Loses
+pub mod Queued
+pub mod SameStore

@@ -1,15 +1,21 @@
 -- The letters that a rank holds, by the rank that they go to next.
-use Rattle.std.specs.Prelude.{◌≡◌, ℕ, ◌+◌, ◌++◌, List, [], slice_index_or}
+use Rattle.std.specs.Prelude.{◌≡◌, ℕ, ◌+◌, ◌++◌, IsTrue, List, []}
+use Rattle.std.specs.List.{AllByRecursion}
 use Rattle.msg_codec.specs.declared.letter.Letter.{Letter}
-use Rattle.world_core.specs.Pairs.{of_pair, sent_number}
+use Rattle.send_buffers.specs.Buffers.{Queue, queue_at}
+use Rattle.world_core.specs.Pairs.{is_data, of_pair, sent_number}
 
--- the letters that go to this rank next
-abbrev pub held_for : List (List Letter) → ℕ → List Letter
-held_for held next = slice_index_or held next []
+-- all of these are data letters
+abbrev pub AreData : List Letter → Type 0
+AreData letters = AllByRecursion (λ l. IsTrue (is_data l)) letters
 
--- No closed batch is held for this next hop. Each letter is alone in a batch, which is closed at once.
-abbrev pub NoneClosed : List (List Letter) → ℕ → Type 0
-NoneClosed held next = held_for held next ≡ []
+-- no closed batch is held for this next hop
+abbrev pub NoneClosed : List Queue → ℕ → Type 0
+NoneClosed held next = (queue_at held next).closed ≡ []
+
+-- no letter waits for others to join its batch
+abbrev pub NoneOpen : List Queue → ℕ → Type 0
+NoneOpen held next = (queue_at held next).open ≡ []
 
 -- These letters are held in addition: of each pair of ranks they come last, and each counts for its sender.
 pub record Gains (before after letters : List Letter) : Type 0 where

@@ -1,14 +1,14 @@
 -- What is seen of a rank, and what it has sent and run.
-use Rattle.std.specs.Prelude.{◌≡◌, ℕ, ◌+◌, Bool, false, true, List, [], ◌∷◌, ◌++◌, replicate}
+use Rattle.std.specs.Prelude.{◌≡◌, ℕ, ◌+◌, Bool, false, true, List, [], ◌∷◌, ◌++◌, map, replicate}
 use Rattle.msg_codec.specs.declared.letter.Letter.{Letter}
 use Rattle.ygm_route.specs.declared.scheme.Scheme.{Scheme}
 use Rattle.ygm_route.specs.Layout.{Shape}
 use Rattle.world_core.specs.declared.entry.Entry.{Entry}
 use Rattle.world_core.specs.Local.{Local, local_rank}
-use Rattle.world_core.specs.Log.{letters_of}
+use Rattle.send_buffers.specs.Buffers.{Queue, closed_up, empty_queue, queued}
 use Rattle.world_core.specs.Pairs.{of_pair, ran, ran_from as pair_ran, sent}
 use Rattle.comm_rank.specs.Fold.{Applies, fold_from, handed_from}
-use Rattle.comm_rank.specs.Held.{Gains}
+use Rattle.comm_rank.specs.Held.{Gains, NoneOpen}
 
 -- Its place in its world, how many letters it may send, what its handler keeps, its counts, the letters that it holds by
 -- the rank that they go to next, the letters that it took and that still wait, the control letters that it took and that
@@ -21,7 +21,7 @@ pub record Rank (C : Type 0) : Type 0 where
   pub contents : C
   pub sent_count : ℕ
   pub run_count : ℕ
-  pub held : List (List Letter)
+  pub held : List Queue
   pub waiting : List Letter
   pub controls : List Letter
   pub stopped : Bool
@@ -36,7 +36,7 @@ fresh_rank layout scheme here most contents = record {
   contents = contents;
   sent_count = 0;
   run_count = 0;
-  held = replicate layout.ranks [];
+  held = replicate layout.ranks empty_queue;
   waiting = [];
   controls = [];
   stopped = false;
@@ -48,7 +48,7 @@ local_of me log = local_rank me.layout me.scheme me.here log
 
 -- the letters that it holds, whatever their destination
 abbrev pub held_letters : {C : Type 0} → Rank C → List Letter
-held_letters me = letters_of me.held
+held_letters me = queued me.held
 
 -- what it has sent to a rank: what its log put, followed by what it still holds
 abbrev pub sent_to : {C : Type 0} → Rank C → List Entry → ℕ → List Letter
@@ -85,6 +85,13 @@ pub record HasSent {C : Type 0} (old new : Rank C) (l : Letter) : Type 0 where
   pub held : Gains (held_letters old) (held_letters new) (l ∷ [])
   pub sent : (log : List Entry) (to : ℕ) → sent_to new log to ≡ sent_to old log to ++ of_pair old.here to (l ∷ [])
   pub rank : new ≡ record old { sent_count = old.sent_count + 1; held = new.held }
+
+-- Its batches were closed: of each next hop it holds the same letters. All else of the rank is unchanged.
+pub record HasFlushed {C : Type 0} (old new : Rank C) : Type 0 where
+  pub closed : new.held ≡ map closed_up old.held
+  pub none_open : (next : ℕ) → NoneOpen new.held next
+  pub same_letters : held_letters new ≡ held_letters old
+  pub rank : new ≡ record old { held = new.held }
 
 -- Letters ran at the rank: of it, only these fields changed.
 abbrev pub OnlyRan : {C : Type 0} → Rank C → Rank C → Type 0

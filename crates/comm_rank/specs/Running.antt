@@ -1,25 +1,37 @@
 -- What a rank does with the letters that it took. Only private functions cite this.
-use Rattle.std.specs.Prelude.{◌≡◌, ◌≢◌, ℕ, ◌+◌, ◌<◌, ◌≤◌, Bool, false, not, is_some, IsTrue, List, [], ◌∷◌, ◌++◌, length, if◌then◌else◌}
+use Rattle.std.specs.Prelude.{◌≡◌, ◌≢◌, ℕ, ◌+◌, ◌<◌, ◌≤◌, Bool, false, not, ◌==◌, is_some, IsTrue, List, [], ◌∷◌, ◌++◌, length, if◌then◌else◌}
 use Rattle.std.specs.List.{AllByRecursion, AllPairs, filter}
 use Rattle.msg_codec.specs.Control.{control_of_letter, is_control}
 use Rattle.msg_codec.specs.declared.letter.Letter.{Letter}
 use Rattle.world_core.specs.declared.entry.Entry.{Entry}
 use Rattle.world_core.specs.Log.{IsTake, batches_taken, letters_taken}
-use Rattle.world_core.specs.Pairs.{is_data, for_rank}
+use Rattle.world_core.specs.Pairs.{is_data, for_rank, of_pair, sent_number}
 use Rattle.world_core.specs.Post.{CountsNeverFall, SameFulls, SamePost, SameStops, PostState}
 use Rattle.world_core.specs.Rules.{IsHonest}
 use Rattle.comm_rank.specs.declared.fault.CommFault.{CommFault}
 use Rattle.comm_rank.specs.Agrees.{Belongs, MayTurn}
 use Rattle.comm_rank.specs.Fault.{IfCountFull}
 use Rattle.comm_rank.specs.Fold.{Applies}
-use Rattle.comm_rank.specs.Held.{Gains}
+use Rattle.comm_rank.specs.Held.{AreData}
+use Rattle.comm_rank.specs.Moves.{SameOpen}
 use Rattle.comm_rank.specs.Rank.{Rank, folded, handed, held_letters, local_of}
 use Rattle.comm_rank.specs.Turns.{Advanced, CutOff, HasBegun, IsCause, IsFullAfter, LookedAt, FullAtFirst, other_end}
 
--- a data letter for this rank
-pub record IsFor (rank : ℕ) (l : Letter) : Type 0 where
-  pub destination : l.to ≡ rank
+-- A data letter that a rank, one of so many, took: it is for this rank, or another rank sent it.
+pub record IsTaken (ranks here : ℕ) (l : Letter) : Type 0 where
   pub tag : IsTrue (is_data l)
+  pub destination : l.to < ranks
+  pub sender : l.from < ranks
+  pub others : l.to ≢ here → l.from ≢ here
+
+-- the first of these letters is a data letter for this rank
+abbrev pub IsFirstFor : ℕ → List Letter → Type 0
+IsFirstFor here [] = ⊥
+IsFirstFor here (l ∷ letters) = IsTrue (is_data l) × (l.to ≡ here)
+
+-- the letters that are for other ranks
+abbrev pub elsewhere : ℕ → List Letter → List Letter
+elsewhere here letters = filter (λ l. not (l.to == here)) letters
 
 -- a data letter from this rank
 pub record IsOf (rank : ℕ) (l : Letter) : Type 0 where
@@ -41,39 +53,44 @@ pub record IsControl (batch : List Letter) : Type 0 where
   pub alone : batch ≡ letter ∷ []
   pub read : IsTrue (is_some (control_of_letter letter))
 
--- ---- letters that ran
+-- ---- letters that passed
 
--- These letters ran, and all that the handler gave is held.
-pub record HasRunAll {C : Type 0} (apply : Applies C) (old new : Rank C) (run : List Letter) : Type 0 where
-  pub contents : new.contents ≡ folded apply old run
-  pub held : Gains (held_letters old) (held_letters new) (handed apply old run)
-  pub lawful : AllByRecursion (IsOf old.here) (handed apply old run)
-  pub run_count : new.run_count ≡ old.run_count + length run
-  pub sent_count : new.sent_count ≡ old.sent_count + length (handed apply old run)
+-- Letters are held in addition, last of their pairs: those that the rank itself sent, and those of other ranks.
+pub record GainsBoth (here : ℕ) (before after sent forwarded : List Letter) : Type 0 where
+  pub own : (to : ℕ) → of_pair here to after ≡ of_pair here to before ++ of_pair here to sent
+  pub number : sent_number here after ≡ sent_number here before + length sent
+  pub others : (from to : ℕ) → from ≢ here → of_pair from to after ≡ of_pair from to before ++ of_pair from to forwarded
+  pub data_alone : AreData before → AreData after
 
--- the letter that waited first ran, and no longer waits
-pub record RanFirst {C : Type 0} (apply : Applies C) (old new : Rank C) : Type 0 where
+-- Of these letters those for the rank ran, and all that the handler gave is held; the others are held to be forwarded.
+pub record HasPassed {C : Type 0} (apply : Applies C) (old new : Rank C) (letters : List Letter) : Type 0 where
+  pub contents : new.contents ≡ folded apply old (for_rank old.here letters)
+  pub held : GainsBoth old.here (held_letters old) (held_letters new) (handed apply old (for_rank old.here letters)) (elsewhere old.here letters)
+  pub run_count : new.run_count ≡ old.run_count + length (for_rank old.here letters)
+  pub sent_count : new.sent_count ≡ old.sent_count + length (handed apply old (for_rank old.here letters))
+
+-- the letter that waited first ran or is held to be forwarded, and no longer waits
+pub record PassedFirst {C : Type 0} (apply : Applies C) (old new : Rank C) : Type 0 where
   pub letter : Letter
   pub first : old.waiting ≡ letter ∷ new.waiting
-  pub ran : HasRunAll apply old new (letter ∷ [])
+  pub passed : HasPassed apply old new (letter ∷ [])
 
--- all letters that waited ran
-pub record RanWaiting {C : Type 0} (apply : Applies C) (old new : Rank C) : Type 0 where
-  pub ran : HasRunAll apply old new old.waiting
+-- all letters that waited did
+pub record PassedWaiting {C : Type 0} (apply : Applies C) (old new : Rank C) : Type 0 where
+  pub passed : HasPassed apply old new old.waiting
   pub nothing_waits : new.waiting ≡ []
 
--- ---- a letter that couldn't run
+-- ---- a letter that couldn't run or be forwarded
 
--- These letters ran, and the next one had not begun to run; or, of what the handler gave by it, only this first part is
--- held.
-pub record IsStuck {C : Type 0} (apply : Applies C) (old new : Rank C) (run given : List Letter) : Type 0 where
-  pub begun : HasBegun apply old.here old.layout.ranks (folded apply old run) new.contents new.waiting given
-  pub held : Gains (held_letters old) (held_letters new) (handed apply old run ++ given)
-  pub lawful : AllByRecursion (IsOf old.here) (handed apply old run ++ given)
-  pub run_count : new.run_count ≡ old.run_count + length run
-  pub sent_count : new.sent_count ≡ old.sent_count + length (handed apply old run) + length given
+-- These letters passed, and the next one had not begun to run; or, of what the handler gave by it, only this first part
+-- is held.
+pub record IsStuck {C : Type 0} (apply : Applies C) (old new : Rank C) (letters given : List Letter) : Type 0 where
+  pub begun : HasBegun apply old.here old.layout.ranks (folded apply old (for_rank old.here letters)) new.contents new.waiting given
+  pub held : GainsBoth old.here (held_letters old) (held_letters new) (handed apply old (for_rank old.here letters) ++ given) (elsewhere old.here letters)
+  pub run_count : new.run_count ≡ old.run_count + length (for_rank old.here letters)
+  pub sent_count : new.sent_count ≡ old.sent_count + length (handed apply old (for_rank old.here letters)) + length given
 
--- the letter that waits first couldn't run
+-- the letter that waits first couldn't
 pub record StuckFirst {C : Type 0} (apply : Applies C) (old new : Rank C) (fault : CommFault) : Type 0 where
   pub given : List Letter
   pub stuck : IsStuck apply old new [] given
@@ -81,13 +98,13 @@ pub record StuckFirst {C : Type 0} (apply : Applies C) (old new : Rank C) (fault
   pub full_at_first : IfCountFull fault (λ _. IsFullAfter apply old new [])
   pub cause : IsCause apply old new fault
 
--- the first of these letters, which waited, ran, and the others wait
+-- the first of these letters, which waited, passed, and the others wait
 pub record StuckIn {C : Type 0} (apply : Applies C) (old new : Rank C) (waiting : List Letter) (fault : CommFault) : Type 0 where
-  pub run : List Letter
+  pub letters : List Letter
   pub given : List Letter
-  pub waits : waiting ≡ run ++ new.waiting
-  pub stuck : IsStuck apply old new run given
-  pub full_at_first : IfCountFull fault (λ _. IsFullAfter apply old new run)
+  pub waits : waiting ≡ letters ++ new.waiting
+  pub stuck : IsStuck apply old new letters given
+  pub full_at_first : IfCountFull fault (λ _. IsFullAfter apply old new (for_rank old.here letters))
   pub cause : IsCause apply old new fault
 
 -- ---- batches that were taken
@@ -98,7 +115,8 @@ pub record GainedTakes (before after taken : List Entry) : Type 0 where
   pub takes : AllByRecursion IsTake taken
   pub in_order : AllPairs (λ one later. other_end one < other_end later) taken
 
--- A rank took batches, all their letters for it ran, and the control letters wait to be handed over.
+-- A rank took batches, all their letters for it ran, and the control letters wait to be handed over. Where it took none,
+-- the letters that wait for others to join their batch are unchanged.
 pub record TookAll {C : Type 0} (apply : Applies C) (old new : Rank C) (before after : List Entry) (took : ℕ) : Type 0 where
   pub taken : List Entry
   pub gained : GainedTakes before after taken
@@ -106,6 +124,7 @@ pub record TookAll {C : Type 0} (apply : Applies C) (old new : Rank C) (before a
   pub nothing_waits : new.waiting ≡ []
   pub controls : new.controls ≡ old.controls ++ filter is_control (letters_taken taken)
   pub took_count : took ≡ length taken
+  pub same_open : took ≡ 0 → SameOpen old.held new.held
 
 -- the same of ranks below this one alone
 pub record TookBelow {C : Type 0} (bound : ℕ) (apply : Applies C) (old new : Rank C) (before after : List Entry) (took : ℕ) : Type 0 where

@@ -3,6 +3,7 @@ use Rattle.std.specs.Prelude.{◌≡◌, ◌⊎◌, ◌≢◌, ℕ, ◌+◌, ◌
 use Rattle.std.specs.List.{AllByRecursion, AllPairs, filter}
 use Rattle.msg_codec.specs.Control.{is_control}
 use Rattle.msg_codec.specs.declared.letter.Letter.{Letter}
+use Rattle.send_buffers.specs.Buffers.{Queue}
 use Rattle.world_core.specs.declared.entry.Entry.{Entry}
 use Rattle.world_core.specs.declared.entry.Entry.TheVariants.{Put, Took}
 use Rattle.world_core.specs.Log.{IsPut, IsTake, batches_taken, letters_taken}
@@ -15,7 +16,7 @@ use Rattle.comm_rank.specs.declared.fault.CommFault.{CommFault}
 use Rattle.comm_rank.specs.Agrees.{Belongs, MayTurn, PutsData}
 use Rattle.comm_rank.specs.Fault.{GivesIfFull, IfCountFull, IsFullAt, NeverStopped}
 use Rattle.comm_rank.specs.Fold.{Applies, given_by}
-use Rattle.comm_rank.specs.Held.{NoneClosed}
+use Rattle.comm_rank.specs.Held.{NoneClosed, NoneOpen}
 use Rattle.comm_rank.specs.Rank.{Rank, folded, halted, handed, held_letters, local_of, ran_at, sent_to}
 
 -- ---- what its log gains
@@ -118,31 +119,31 @@ LookedAt here from old new =
     ⊎ Rose (old.misses from) (new.misses from)
 
 -- the link to a rank was found full, with a closed batch for it that is still held
-pub record MetFull (to : ℕ) (held : List (List Letter)) (old new : PostState) : Type 0 where
+pub record MetFull (to : ℕ) (held : List Queue) (old new : PostState) : Type 0 where
   pub rose : Rose (old.fulls to) (new.fulls to)
   pub some : NoneClosed held to → ⊥
 
 -- no closed batch is held for a rank, or the link to it was found full
-abbrev pub NoneOrFull : ℕ → List (List Letter) → PostState → PostState → Type 0
+abbrev pub NoneOrFull : ℕ → List Queue → PostState → PostState → Type 0
 NoneOrFull to held old new = NoneClosed held to ⊎ MetFull to held old new
 
 -- This rank, one of so many, is the lowest to which the link was found full, and a closed batch for it is still held.
-pub record IsFirstFull (ranks to : ℕ) (held : List (List Letter)) (old new : PostState) : Type 0 where
+pub record IsFirstFull (ranks to : ℕ) (held : List Queue) (old new : PostState) : Type 0 where
   pub within : to < ranks
   pub rose : Rose (old.fulls to) (new.fulls to)
   pub some : NoneClosed held to → ⊥
   pub lower : (rank : ℕ) → rank < to → new.fulls rank ≡ old.fulls rank
 
 -- such a rank, or no link was found full
-abbrev pub FirstFull : ℕ → List (List Letter) → PostState → PostState → Option ℕ → Type 0
+abbrev pub FirstFull : ℕ → List Queue → PostState → PostState → Option ℕ → Type 0
 FirstFull ranks held old new None = SameFulls old new
 FirstFull ranks held old new (Some to) = IsFirstFull ranks to held old new
 
 -- ---- the outcomes of a turn: for the rank before and after it, and for what the post shows
 
--- It ended. From each link it took one batch or found none, and for each rank it put what is held, until no closed batch
--- was left or the link was found full; where no link was, no letter is held. The rank still belongs to the post, and
--- may take the next turn. It met no stop, and who has raised the stop is unchanged.
+-- It ended. From each link it took one batch or found none, and for each next hop it put closed batches until none was left
+-- or the link was found full. Where no link was, it took nothing and no batch was open before, no letter is held. The rank
+-- still belongs to the post, and may take the next turn. It met no stop, and who has raised the stop is unchanged.
 pub record HasEnded {C : Type 0} (apply : Applies C) (start : C → C) (old new : Rank C) (before after : PostState)
     (turn : Turn) : Type 0 where
   pub turned : Turned apply old new (before.log old.here) (after.log old.here) turn
@@ -151,7 +152,8 @@ pub record HasEnded {C : Type 0} (apply : Applies C) (start : C → C) (old new 
   pub takes_from_each : (from : ℕ) → from < old.layout.ranks → LookedAt old.here from before after
   pub puts_to_each : (to : ℕ) → to < old.layout.ranks → NoneOrFull to new.held before after
   pub full : FirstFull old.layout.ranks new.held before after turn.full
-  pub none_held : turn.full ≡ None → held_letters new ≡ []
+  pub none_held : turn.full ≡ None → turn.took ≡ 0 → ((to : ℕ) → to < old.layout.ranks → NoneOpen old.held to) →
+      held_letters new ≡ []
   pub stops : SameStops before after
   pub halts : after.halts ≡ before.halts
 

@@ -1,25 +1,23 @@
 //! One rank of a world.
-ghost use Rattle.std.specs.Prelude.{◌≡◌, ◌<◌, ◌≤◌, ◌+◌, ℕ, List, [], ◌∷◌, false, true, length, Err, IfOk, IfErr, OnOk, OnErr, IfSome, IsNone, IsTrue};
+ghost use Rattle.std.specs.Prelude.{◌≡◌, ◌<◌, ◌≤◌, ◌+◌, ℕ, List, [], ◌∷◌, false, true, length, Err, IfOk, IfErr, OnOk, OnErr, IfSome, IsNone, IsOk, IsTrue};
 ghost use Rattle.msg_codec.specs.Control.{letter_of_control};
 ghost use Rattle.msg_codec.specs.Letter.{letter_of};
 ghost use Rattle.world_core.specs.declared.entry.Entry.{Entry};
 ghost use Rattle.list_facts.specs.Sums.{sum_upto};
 ghost use Rattle.world_core.specs.Limits.{data_tags, most_letters};
-ghost use Rattle.world_core.specs.Log.{letters_of};
 ghost use Rattle.world_core.specs.Post.{RaiseKeeps, StopRaised};
 ghost use Rattle.world_core.specs.Rules.{IsHonest};
-ghost use Rattle.ygm_route.specs.declared.scheme.Scheme.TheVariants.{Direct};
+ghost use Rattle.send_buffers.specs.Limits.{max_buffer, min_buffer};
 ghost use Rattle.comm_rank.specs.Agrees.{Agrees};
 ghost use Rattle.comm_rank.specs.Fault.{IsFullAt, NeverStopped};
-ghost use Rattle.comm_rank.specs.declared.fault.CommFault.TheVariants.{CountFull};
-ghost use Rattle.comm_rank.specs.Held.{Gains};
-ghost use Rattle.comm_rank.specs.Rank.{HasSent, IsIdle, fresh_rank, halted, local_of, sent_to};
-ghost use Rattle.comm_rank.specs.Store.{IsHeldFor};
+ghost use Rattle.comm_rank.specs.declared.fault.CommFault.TheVariants.{CountFull, NoMemory};
+ghost use Rattle.comm_rank.specs.Rank.{HasFlushed, HasSent, IsIdle, fresh_rank, halted, local_of, sent_to};
+ghost use Rattle.comm_rank.specs.Store.{Holds, IsSameStore};
 
-use crate::held::Held;
 use crate::waiting::Waiting;
 use crate::{CommFault, Handler, Outgoing};
 use msg_codec::{Body, Control, Counter, LetterRef};
+use send_buffers::Buffers;
 use std::alloc::Global;
 use std::collections::VecDeque;
 use std::marker::Model;
@@ -38,7 +36,7 @@ pub struct Comm<H> {
     pub(crate) limits: Limits,
     pub(crate) sent: Counter,
     pub(crate) ran: u64,
-    pub(crate) held: Held,
+    pub(crate) held: Buffers,
     pub(crate) waiting: Waiting,
     pub(crate) controls: VecDeque<Control>,
     pub(crate) out: Outgoing,
@@ -47,10 +45,10 @@ pub struct Comm<H> {
 }
 
 impl<H> Model for Comm<H> {
-    ghost use Rattle.std.specs.Prelude.{◌≡◌, ◌<◌, [], length, map};
+    ghost use Rattle.std.specs.Prelude.{◌≡◌, ◌<◌, [], map};
     ghost use Rattle.msg_codec.specs.Control.{letter_of_control};
-    ghost use Rattle.ygm_route.specs.declared.scheme.Scheme.TheVariants.{Direct};
     ghost use Rattle.comm_rank.specs.Rank.{Rank};
+    ghost use Rattle.comm_rank.specs.Store.{AreOf};
 
     ghost Value = { Rank H };
 
@@ -62,14 +60,14 @@ impl<H> Model for Comm<H> {
       contents = comm.handler;
       sent_count = comm.sent.count;
       run_count = comm.ran;
-      held = comm.held.lists;
+      held = comm.held.queues;
       waiting = comm.waiting;
       controls = map letter_of_control comm.controls.items;
       stopped = comm.stopped;
     } };
 
-    ghost invariant = { λ comm. (comm.here < comm.layout.ranks) × (comm.scheme ≡ Direct) × (comm.sent.limit ≡ comm.limits.letters)
-        × (comm.out.ranks ≡ comm.layout.ranks) × (comm.out.letters ≡ []) × (length comm.held.lists ≡ comm.layout.ranks) };
+    ghost invariant = { λ comm. (comm.here < comm.layout.ranks) × (comm.sent.limit ≡ comm.limits.letters)
+        × (comm.out.ranks ≡ comm.layout.ranks) × (comm.out.letters ≡ []) × AreOf comm.layout comm.scheme comm.here comm.held };
 }
 
 /// A rank that couldn't be made, for lack of memory: its handler.
@@ -88,21 +86,23 @@ pub struct Finished<H> {
 pub(crate) fn hold(
     sent: &mut Counter,
     most: u64,
-    held: &mut Held,
+    held: &mut Buffers,
     letter: LetterRef<'_>,
 ) -> Result<(), CommFault>
     requires limit { sent.old.limit ≡ most }
-    requires destination { letter.to < length held.old.lists }
-    requires data { IsHeldFor (length held.old.lists) letter.to (letter_of letter) }
-    ensures held { OnOk result (Gains (letters_of held.old.lists) (letters_of held.new.lists) (letter_of letter.entry ∷ [])) }
+    requires destination { letter.to < held.old.layout.ranks }
+    requires sender { letter.from < held.old.layout.ranks }
+    requires tag { letter.tag < data_tags }
+    ensures held { OnOk result (Holds held.old held.new (letter_of letter.entry)) }
     ensures counted { OnOk result (sent.new ≡ record sent.old { count = sent.old.count + 1 }) }
-    ensures not_held { OnErr result (held.new.lists ≡ held.old.lists) }
+    ensures not_held { OnErr result (held.new.queues ≡ held.old.queues) }
     ensures not_counted { OnErr result (sent.new ≡ sent.old) }
-    ensures all { length held.new.lists ≡ length held.old.lists }
+    ensures same { IsSameStore held.old held.new }
     ensures cause { IfErr result (IsFullAt sent.old.count most) }
     ensures full { most ≤ sent.old.count → result ≡ Err (CountFull most) }
     ensures never_stopped { IfErr result NeverStopped }
 {
+    held.holds();
     if sent.count() < most {
         held.add(letter)?;
     }
@@ -112,23 +112,26 @@ pub(crate) fn hold(
 
 impl<H: Handler> Comm<H> {
     /// Rank number `here`, which has sent and run nothing, with a handler that keeps what it starts with. It takes
-    /// memory from `alloc`, also as it sends and as letters run. Out of memory, it hands the handler back.
+    /// memory from `alloc`, also as it sends and as letters run. Its batches have at most `buffer` bytes, or one letter
+    /// alone. Out of memory, it hands the handler back.
     pub fn new(
         alloc: Global,
         layout: Layout,
         scheme: Scheme,
         here: u32,
+        buffer: u32,
         limits: Limits,
         handler: H,
     ) -> Result<Comm<H>, NotMade<H>>
         requires below { here < layout.ranks }
-        requires direct { scheme ≡ Direct }
+        requires least { min_buffer ≤ buffer }
+        requires greatest { buffer ≤ max_buffer }
         requires fresh { H.start handler ≡ handler }
         ensures made { IfOk result (λ comm. comm ≡ fresh_rank layout scheme here limits.letters handler) }
         ensures agrees { IfOk result (λ comm. Agrees H.apply H.start comm []) }
         ensures handed_back { IfErr result (λ refused. refused.handler ≡ handler) }
     {
-        let Ok(held) = Held::new(alloc, layout.ranks()) else {
+        let Ok(held) = Buffers::new(alloc, layout, scheme, here, buffer) else {
             return Err(NotMade { handler });
         };
         Ok(Comm {
@@ -170,6 +173,20 @@ impl<H: Handler> Comm<H> {
             body: body.as_slice(),
         };
         hold(&mut self.sent, self.limits.letters, &mut self.held, letter)
+    }
+
+    /// Closes its batches: the next turns put them, though they might hold more letters. It takes no memory and never fails;
+    /// its result is that of the other calls that send.
+    pub fn flush(&mut self) -> Result<(), CommFault>
+        requires going { self.old.stopped ≡ false }
+        ensures closed { HasFlushed self.old self.new }
+        ensures never_fails { IsOk result }
+        ensures agrees { (log : List Entry) → Agrees H.apply H.start self.old log → Agrees H.apply H.start self.new log }
+    {
+        let Ok(()) = self.held.flush_all() else {
+            unreachable!();
+        };
+        Ok(())
     }
 
     /// The number of ranks of its world.

@@ -5,7 +5,6 @@
 mod comm;
 mod fault;
 mod handler;
-mod held;
 mod laws;
 mod put_out;
 #[cfg(test)]

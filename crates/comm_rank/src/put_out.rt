@@ -1,34 +1,39 @@
 //! A rank puts the letters that it holds into its links.
 ghost use Rattle.std.specs.Prelude.{◌≡◌, ◌<◌, ◌≤◌, ℕ, length, IfErr, IfOk};
+ghost use Rattle.send_buffers.specs.Buffers.{queue_at};
 ghost use Rattle.world_core.specs.Rules.{IsHonest};
 ghost use Rattle.comm_rank.specs.Agrees.{Belongs, MayTurn};
-ghost use Rattle.comm_rank.specs.Held.{held_for};
-ghost use Rattle.comm_rank.specs.Moves.{HasPutAll, HasPutEach, HasPutFirst, HasPutTo, MayPut, PutAllFailed, PutsFailed};
+ghost use Rattle.comm_rank.specs.Moves.{HasPutAll, HasPutEach, HasPutFirst, HasPutTo, MayPut, OthersUnchanged, PutAllFailed, PutsFailed};
 ghost use Rattle.comm_rank.specs.Rank.{local_of};
-ghost use Rattle.comm_rank.specs.Store.{AreApart, OthersUnchanged};
 ghost use Rattle.comm_rank.specs.Turns.{PutsKeep};
 
-use crate::held::Held;
 use crate::{Comm, CommFault, Handler};
+use send_buffers::Buffers;
 use world_core::{Post, PutBack};
 
-/// What a turn put for one destination: how many batches, and whether the link was full.
+/// What a turn put for one next hop: how many batches, and whether the link was full.
 #[derive(Clone, Copy)]
 struct Placed {
     put: u64,
     full: bool,
 }
 
-/// Puts the first letter that is held for a destination. It returns false where the link was full.
-fn put_first<P: Post>(held: &mut Held, post: &mut P, here: u32, to: u32) -> Result<bool, CommFault>
-    requires may_put { MayPut here held.old.lists (P.state post.old) }
-    requires within { to < length held.old.lists }
-    requires some { 0 < length (held_for held.old.lists to) }
-    ensures put { IfOk result (HasPutFirst here to held.old.lists held.new.lists (P.state post.old) (P.state post.new)) }
-    ensures failed { IfErr result (PutsFailed here held.old.lists held.new.lists (P.state post.old) (P.state post.new)) }
-    ensures others { OthersUnchanged to held.old.lists held.new.lists }
-    ensures apart { AreApart held.new.lists to }
+/// Puts the oldest closed batch for a next hop. It returns false where the link was full.
+fn put_first<P: Post>(
+    held: &mut Buffers,
+    post: &mut P,
+    here: u32,
+    to: u32,
+) -> Result<bool, CommFault>
+    requires may_put { MayPut held.old (P.state post.old) }
+    requires here { here ≡ held.old.here }
+    requires within { to < held.old.layout.ranks }
+    requires some { 0 < length (queue_at held.old.queues to).closed }
+    ensures put { IfOk result (HasPutFirst to held.old held.new (P.state post.old) (P.state post.new)) }
+    ensures failed { IfErr result (PutsFailed held.old held.new (P.state post.old) (P.state post.new)) }
+    ensures others { OthersUnchanged to held.old.queues held.new.queues }
 {
+    held.holds();
     let Some(batch) = held.next_out(to) else {
         unreachable!();
     };
@@ -45,16 +50,22 @@ fn put_first<P: Post>(held: &mut Held, post: &mut P, here: u32, to: u32) -> Resu
     }
 }
 
-/// Puts what is held for a destination, until nothing remains or the link is full.
-fn put_to<P: Post>(held: &mut Held, post: &mut P, here: u32, to: u32) -> Result<Placed, CommFault>
-    requires may_put { MayPut here held.old.lists (P.state post.old) }
-    requires within { to < length held.old.lists }
+/// Puts the closed batches for a next hop, until none remains or the link is full.
+fn put_to<P: Post>(
+    held: &mut Buffers,
+    post: &mut P,
+    here: u32,
+    to: u32,
+) -> Result<Placed, CommFault>
+    requires may_put { MayPut held.old (P.state post.old) }
+    requires here { here ≡ held.old.here }
+    requires within { to < held.old.layout.ranks }
     ensures put { IfOk result (λ what.
-        HasPutTo here to held.old.lists held.new.lists (P.state post.old) (P.state post.new) what.put what.full) }
-    ensures failed { IfErr result (PutsFailed here held.old.lists held.new.lists (P.state post.old) (P.state post.new)) }
-    ensures others { OthersUnchanged to held.old.lists held.new.lists }
+        HasPutTo to held.old held.new (P.state post.old) (P.state post.new) what.put what.full) }
+    ensures failed { IfErr result (PutsFailed held.old held.new (P.state post.old) (P.state post.new)) }
+    ensures others { OthersUnchanged to held.old.queues held.new.queues }
 {
-    let most = held.batches_for(to);
+    let most = held.closed_count(to);
     for k in 0..most {
         if !put_first(held, post, here, to)? {
             return Ok(Placed {
@@ -69,19 +80,20 @@ fn put_to<P: Post>(held: &mut Held, post: &mut P, here: u32, to: u32) -> Result<
     })
 }
 
-/// Puts what is held, destination by destination. It returns how many batches, and the lowest rank to which the
+/// Puts the closed batches, next hop by next hop. It returns how many batches, and the lowest rank to which the
 /// link was full.
 fn put_each<P: Post>(
-    held: &mut Held,
+    held: &mut Buffers,
     post: &mut P,
     here: u32,
     ranks: u32,
 ) -> Result<(u64, Option<u32>), CommFault>
-    requires may_put { MayPut here held.old.lists (P.state post.old) }
-    requires ranks { ranks ≡ length held.old.lists }
+    requires may_put { MayPut held.old (P.state post.old) }
+    requires here { here ≡ held.old.here }
+    requires ranks { ranks ≡ held.old.layout.ranks }
     ensures put { IfOk result (λ what.
-        HasPutEach here ranks held.old.lists held.new.lists (P.state post.old) (P.state post.new) what.0 what.1) }
-    ensures failed { IfErr result (PutsFailed here held.old.lists held.new.lists (P.state post.old) (P.state post.new)) }
+        HasPutEach ranks held.old held.new (P.state post.old) (P.state post.new) what.0 what.1) }
+    ensures failed { IfErr result (PutsFailed held.old held.new (P.state post.old) (P.state post.new)) }
 {
     let mut put: u64 = 0;
     let mut full = None;
@@ -96,7 +108,7 @@ fn put_each<P: Post>(
 }
 
 impl<H: Handler> Comm<H> {
-    /// Puts what the rank holds, destination by destination. It returns how many batches, at most `u64::MAX`, and the
+    /// Puts the closed batches that the rank holds, next hop by next hop. It returns how many batches, at most `u64::MAX`, and the
     /// lowest rank to which the link was full.
     pub(crate) fn put_all<P: Post>(&mut self, post: &mut P) -> Result<(u64, Option<u32>), CommFault>
         requires belongs { Belongs H.apply H.start self.old (P.state post.old) }
@@ -112,6 +124,8 @@ impl<H: Handler> Comm<H> {
         // No put is a letter too many.
         let within = self.sent.count() <= self.limits.letters;
         prove!(within);
-        put_each(&mut self.held, post, self.here, self.layout.ranks())
+        let put = put_each(&mut self.held, post, self.here, self.layout.ranks());
+        self.held.holds();
+        put
     }
 }

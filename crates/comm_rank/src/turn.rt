@@ -3,21 +3,23 @@ ghost use Rattle.std.specs.Prelude.{◌≡◌, ◌<◌, ◌≤◌, ◌+◌, [], 
 ghost use Rattle.std.specs.List.{AllByRecursion};
 ghost use Rattle.msg_codec.specs.Control.{letter_of_control};
 ghost use Rattle.world_core.specs.Limits.{most_arrived};
-ghost use Rattle.world_core.specs.Log.{letters_of};
+ghost use Rattle.world_core.specs.Pairs.{for_rank};
+ghost use Rattle.send_buffers.specs.Buffers.{queued};
 ghost use Rattle.comm_rank.specs.Agrees.{Belongs, MayTurn};
 ghost use Rattle.comm_rank.specs.Fault.{IfCountFull, IfStopped, IsFullAt, NeverStopped, UnlessStopped};
 ghost use Rattle.comm_rank.specs.declared.fault.CommFault.TheVariants.{Stopped};
 ghost use Rattle.comm_rank.specs.Fold.{letter_by};
 ghost use Rattle.comm_rank.specs.Held.{Gains};
 ghost use Rattle.comm_rank.specs.Rank.{OnlyRan, Worked};
-ghost use Rattle.comm_rank.specs.Running.{HasTakenAll, HasTakenFrom, IsControl, IsFor, RanFirst, RanWaiting, StuckFirst, StuckIn, TakesKeep, WasCutFrom, WorkKeeps, begins_with_control};
+ghost use Rattle.comm_rank.specs.Store.{IsSameStore};
+ghost use Rattle.comm_rank.specs.Running.{HasTakenAll, HasTakenFrom, IsControl, IsFirstFor, IsTaken, PassedFirst, PassedWaiting, StuckFirst, StuckIn, TakesKeep, WasCutFrom, WorkKeeps, begins_with_control};
 ghost use Rattle.comm_rank.specs.Turns.{HasEnded, HasFailed, HasHalted, KeepsPost, WasCut};
 
 use crate::comm::hold;
-use crate::held::Held;
 use crate::waiting::Waiting;
 use crate::{Comm, CommFault, Handler, Outgoing};
 use msg_codec::{Batch, Control, Counter, control_of};
+use send_buffers::Buffers;
 use world_core::{DATA_TAGS, Post};
 
 /// What a turn did.
@@ -36,19 +38,19 @@ fn send_out(
     here: u32,
     sent: &mut Counter,
     most: u64,
-    held: &mut Held,
+    held: &mut Buffers,
     out: &Outgoing,
 ) -> Result<(), CommFault>
     requires limit { sent.old.limit ≡ most }
-    requires ranks { length held.old.lists ≡ out.now.ranks }
+    requires ranks { held.old.layout.ranks ≡ out.now.ranks }
     requires here { here < out.now.ranks }
     ensures held { OnOk result
-        (Gains (letters_of held.old.lists) (letters_of held.new.lists) (map (letter_by here) out.now.letters)) }
+        (Gains (queued held.old.queues) (queued held.new.queues) (map (letter_by here) out.now.letters)) }
     ensures counted { OnOk result (sent.new ≡ record sent.old { count = sent.old.count + length out.now.letters }) }
     ensures part { OnErr result ((k : ℕ) × (k < length out.now.letters)
-        × Gains (letters_of held.old.lists) (letters_of held.new.lists) (take k (map (letter_by here) out.now.letters))
+        × Gains (queued held.old.queues) (queued held.new.queues) (take k (map (letter_by here) out.now.letters))
         × (sent.new ≡ record sent.old { count = sent.old.count + k })) }
-    ensures all { length held.new.lists ≡ length held.old.lists }
+    ensures same { IsSameStore held.old held.new }
     ensures cause { IfErr result (IsFullAt sent.new.count most) }
     ensures one_too_many { IfErr result (λ fault. IfCountFull fault (λ _. most < sent.old.count + length out.now.letters)) }
     ensures never_stopped { IfErr result NeverStopped }
@@ -79,14 +81,15 @@ fn begins_with_control(batch: &Batch) -> bool
 
 impl<H: Handler> Comm<H> {
     /// A turn. It looks whether the stop is raised. Then it takes at most one batch from each link, in the order of
-    /// ranks, and runs the letters for this rank in order; a control letter runs nowhere, and waits for `next_control`.
-    /// Last it puts what the rank holds, destination by destination, until nothing remains or the link is full.
+    /// ranks. It runs the letters for this rank in order, and holds the others for their next hop; a control letter runs
+    /// nowhere, and waits for `next_control`. Last it puts the closed batches, next hop by next hop, until none remains or
+    /// the link is full.
     ///
     /// In a barrier, a rank that took no letter for itself since its last Count may take a turn only while it holds no
     /// letter of its own.
     ///
-    /// Where the stop is raised, it returns `Stopped` and does nothing. Where a letter can't be taken, run or put, for
-    /// lack of memory or because the handler gave a letter too many, this rank raises the stop. The letters that it
+    /// Where the stop is raised, it returns `Stopped` and does nothing. Where a letter can't be taken, run, held or put,
+    /// for lack of memory or because the handler gave a letter too many, this rank raises the stop. The letters that it
     /// took and that haven't run wait for ever; its control letters still wait for `next_control`. After either fault
     /// the rank is stopped.
     pub fn turn<P: Post>(&mut self, post: &mut P) -> Result<Turn, CommFault>
@@ -130,8 +133,8 @@ impl<H: Handler> Comm<H> {
         Ok(Turn { took, put, full })
     }
 
-    /// Takes a batch from each link that isn't empty, and runs its letters, or keeps its control letter. It returns how
-    /// many it took.
+    /// Takes a batch from each link that isn't empty, and runs or holds its letters, or keeps its control letter. It
+    /// returns how many it took.
     fn take_all<P: Post>(&mut self, post: &mut P) -> Result<u32, CommFault>
         requires belongs { Belongs H.apply H.start self.old (P.state post.old) }
         requires may_turn { MayTurn self.old ((P.state post.old).log self.old.here) }
@@ -148,8 +151,8 @@ impl<H: Handler> Comm<H> {
         Ok(took)
     }
 
-    /// Takes a batch from the link of one rank, if it isn't empty, and runs its letters, or keeps its control letter. It
-    /// returns how many it took.
+    /// Takes a batch from the link of one rank, if it isn't empty, and runs or holds its letters, or keeps its control
+    /// letter. It returns how many it took.
     fn take_from<P: Post>(&mut self, post: &mut P, from: u32) -> Result<u32, CommFault>
         requires belongs { Belongs H.apply H.start self.old (P.state post.old) }
         requires may_turn { MayTurn self.old ((P.state post.old).log self.old.here) }
@@ -161,6 +164,7 @@ impl<H: Handler> Comm<H> {
         ensures rank { Worked self.old self.new }
         ensures keeps { TakesKeep self.old (P.state post.old) (P.state post.new) }
     {
+        self.held.holds();
         // A control letter that comes can be kept.
         self.controls.reserve(1)?;
         let Some(batch) = post.take(self.here, from) else {
@@ -171,21 +175,40 @@ impl<H: Handler> Comm<H> {
             return Ok(1);
         }
         self.waiting = Waiting::of(batch);
-        self.run_waiting()?;
+        self.pass_waiting()?;
         Ok(1)
     }
 
-    /// Runs the letters that wait.
-    fn run_waiting(&mut self) -> Result<(), CommFault>
-        requires for_here { AllByRecursion (IsFor self.old.here) self.old.waiting }
-        requires few { self.old.run_count + length self.old.waiting ≤ most_arrived }
-        ensures ran { OnOk result (RanWaiting H.apply self.old self.new) }
+    /// Runs or holds the letters that wait.
+    fn pass_waiting(&mut self) -> Result<(), CommFault>
+        requires taken { AllByRecursion (IsTaken self.old.layout.ranks self.old.here) self.old.waiting }
+        requires few { self.old.run_count + length (for_rank self.old.here self.old.waiting) ≤ most_arrived }
+        ensures passed { OnOk result (PassedWaiting H.apply self.old self.new) }
         ensures stuck { IfErr result (StuckIn H.apply self.old self.new self.old.waiting) }
         ensures rank { OnlyRan self.old self.new }
     {
         for _ in 0..self.waiting.count() {
-            self.run_first()?;
+            self.pass_first()?;
         }
+        Ok(())
+    }
+
+    /// Runs the letter that waits first where it is for this rank, and otherwise holds it for its next hop.
+    fn pass_first(&mut self) -> Result<(), CommFault>
+        requires some { 0 < length self.old.waiting }
+        requires taken { AllByRecursion (IsTaken self.old.layout.ranks self.old.here) self.old.waiting }
+        requires few { self.old.run_count + length (for_rank self.old.here self.old.waiting) ≤ most_arrived }
+        ensures passed { OnOk result (PassedFirst H.apply self.old self.new) }
+        ensures stuck { IfErr result (StuckFirst H.apply self.old self.new) }
+        ensures rank { OnlyRan self.old self.new }
+    {
+        self.held.holds();
+        let letter = self.waiting.first();
+        if letter.to == self.here {
+            return self.run_first();
+        }
+        self.held.add(letter)?;
+        self.waiting.drop_first();
         Ok(())
     }
 
@@ -193,17 +216,14 @@ impl<H: Handler> Comm<H> {
     /// that the handler gave can't be sent, those before it are, and the letter that ran still waits.
     fn run_first(&mut self) -> Result<(), CommFault>
         requires some { 0 < length self.old.waiting }
-        requires for_here { AllByRecursion (IsFor self.old.here) self.old.waiting }
+        requires for_here { IsFirstFor self.old.here self.old.waiting }
         requires few { self.old.run_count < most_arrived }
-        ensures ran { OnOk result (RanFirst H.apply self.old self.new) }
+        ensures passed { OnOk result (PassedFirst H.apply self.old self.new) }
         ensures stuck { IfErr result (StuckFirst H.apply self.old self.new) }
         ensures rank { OnlyRan self.old self.new }
     {
-        let letter = self.waiting.first();
-        if letter.to != self.here {
-            unreachable!();
-        }
-        self.handler.run(self.here, letter, &mut self.out)?;
+        self.handler
+            .run(self.here, self.waiting.first(), &mut self.out)?;
         let most = self.limits.letters;
         let sent = send_out(self.here, &mut self.sent, most, &mut self.held, &self.out);
         self.out.cut(0);

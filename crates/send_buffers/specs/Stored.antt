@@ -1,5 +1,6 @@
 -- How a rank's buffers are stored: a queue for each next hop. Only private functions and types cite this.
-use Rattle.std.specs.Prelude.{ℕ, ◌<◌, ◌≤◌, List, length, map, slice_index_or}
+use Rattle.std.specs.Prelude.{ℕ, List, [], ◌∷◌, map}
+use Rattle.msg_codec.specs.declared.letter.Letter.{Letter}
 use Rattle.ygm_route.specs.declared.scheme.Scheme.{Scheme}
 use Rattle.ygm_route.specs.Layout.{Shape}
 use Rattle.send_buffers.specs.Buffers.{Buffered, Queue}
@@ -15,9 +16,10 @@ held_in stored = map (λ one. one.held) stored
 abbrev pub room_in : List Stored → List ℕ
 room_in stored = map (λ one. one.room) stored
 
--- each queue has memory for one more closed batch
-abbrev pub HaveRoom : List Stored → Type 0
-HaveRoom stored = (next : ℕ) → next < length stored → 1 ≤ slice_index_or (room_in stored) next 0
+-- for how many closed batches the open one keeps memory: for itself, while it has a letter
+abbrev pub kept_for : List Letter → ℕ
+kept_for [] = 0
+kept_for (l ∷ letters) = 1
 
 -- the buffers that are stored so
 abbrev pub buffered : Shape → Scheme → ℕ → ℕ → List Stored → Buffered

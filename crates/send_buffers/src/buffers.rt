@@ -1,10 +1,10 @@
 //! The letters that a rank holds until its links take them.
-ghost use Rattle.std.specs.Prelude.{◌≡◌, ◌<◌, ◌≤◌, ℕ, List, true, false, [], length, map, replicate, slice_index_or, IfOk, IfSome, IsNone, OnOk, OnErr};
+ghost use Rattle.std.specs.Prelude.{◌≡◌, ◌<◌, ◌≤◌, ℕ, List, true, false, [], length, map, replicate, slice_index_or, IfOk, IfSome, IsNone, IsOk, OnOk, OnErr};
 ghost use Rattle.msg_codec.specs.Letter.{letter_of};
 ghost use Rattle.ygm_route.specs.Layout.{IsLayout};
 ghost use Rattle.send_buffers.specs.Buffers.{AreRouted, IsBatchFor, closed_up, empty_queue, letters_in, queue_at, queued};
 ghost use Rattle.send_buffers.specs.Calls.{HandsOut, InPlace, empty_buffers, with_batch_back, with_letter};
-ghost use Rattle.send_buffers.specs.Stored.{HaveRoom, held_in};
+ghost use Rattle.send_buffers.specs.Stored.{held_in};
 
 use crate::hop_queue::HopQueue;
 use msg_codec::{Batch, LetterRef};
@@ -52,20 +52,8 @@ fn empty_queues(alloc: Global, ranks: u32) -> Result<Vec<HopQueue>, AllocError>
     Ok(queues)
 }
 
-/// Makes room for one more closed batch in each queue.
-fn make_room(queues: &mut Vec<HopQueue>) -> Result<(), AllocError>
-    ensures held { held_in queues.new.items ≡ held_in queues.old.items }
-    ensures room { OnOk result (HaveRoom queues.new.items) }
-{
-    for at in 0..queues.len() {
-        queues[at].make_room()?;
-    }
-    Ok(())
-}
-
 /// Closes the open batch of each queue.
 fn close_up(alloc: Global, queues: &mut Vec<HopQueue>)
-    requires { HaveRoom queues.old.items }
     ensures { held_in queues.new.items ≡ map closed_up (held_in queues.old.items) }
 {
     for at in 0..queues.len() {
@@ -109,13 +97,13 @@ impl Buffers {
         self.queues[next as usize].add(self.alloc, self.limit as usize, letter)
     }
 
-    /// Closes each batch that has letters, so that it can go out.
+    /// Closes each batch that has letters, so that it can go out. It takes no memory and never fails: a batch keeps memory to
+    /// be closed from its first letter on.
     pub fn flush_all(&mut self) -> Result<(), AllocError>
-        ensures closed { OnOk result (self.new.queues ≡ map closed_up self.old.queues) }
-        ensures refused { OnErr result (self.new.queues ≡ self.old.queues) }
+        ensures closed { self.new.queues ≡ map closed_up self.old.queues }
+        ensures never_fails { IsOk result }
         ensures place { InPlace self.old self.new }
     {
-        make_room(&mut self.queues)?;
         close_up(self.alloc, &mut self.queues);
         Ok(())
     }

@@ -1,7 +1,8 @@
 //! What is held for one next hop.
-ghost use Rattle.std.specs.Prelude.{◌≡◌, ◌≤◌, ◌++◌, false, [], ◌∷◌, length, IfOk, IfSome, IsNone, OnOk, OnErr, OnSome};
+ghost use Rattle.std.specs.Prelude.{◌≡◌, ◌<◌, ◌≤◌, ◌++◌, false, [], ◌∷◌, length, IfOk, IfSome, IsNone, OnOk, OnErr, OnSome};
 ghost use Rattle.msg_codec.specs.Letter.{letter_of};
 ghost use Rattle.send_buffers.specs.Buffers.{added, closed_up, empty_queue, given_back, may_join};
+ghost use Rattle.send_buffers.specs.Stored.{kept_for};
 
 use msg_codec::{Batch, LetterRef};
 use std::alloc::{AllocError, Global};
@@ -9,24 +10,27 @@ use std::collections::VecDeque;
 use std::marker::Model;
 use std::mem;
 
-/// The closed batches for one next hop, the oldest first, and the batch that still gains letters.
+/// The closed batches for one next hop, the oldest first, and the batch that still gains letters. While that has a letter,
+/// there is memory to close it.
 #[derive(Drop)]
 pub(crate) struct HopQueue {
     closed: VecDeque<Batch>,
-    gathering: Batch,
+    open: Batch,
 }
 
 impl Model for HopQueue {
-    ghost use Rattle.std.specs.Prelude.{◌-◌};
+    ghost use Rattle.std.specs.Prelude.{◌-◌, ◌+◌, ◌≤◌};
     ghost use Rattle.std.specs.VecDeque.{deque_capacity, deque_len};
-    ghost use Rattle.send_buffers.specs.Stored.{Stored};
+    ghost use Rattle.send_buffers.specs.Stored.{Stored, kept_for};
 
     ghost Value = { Stored };
 
     ghost view = { λ queue. record {
-      held = record { closed = queue.closed.items; «open» = queue.gathering };
-      room = deque_capacity queue.closed - deque_len queue.closed;
+      held = record { closed = queue.closed.items; «open» = queue.open };
+      room = deque_capacity queue.closed - deque_len queue.closed - kept_for queue.open;
     } };
+
+    ghost invariant = { λ queue. deque_len queue.closed + kept_for queue.open ≤ deque_capacity queue.closed };
 }
 
 /// A batch of one letter, with room for as many bytes as a batch may have.
@@ -46,7 +50,7 @@ impl HopQueue {
     {
         HopQueue {
             closed: VecDeque::new(alloc),
-            gathering: Batch::empty(alloc),
+            open: Batch::empty(alloc),
         }
     }
 
@@ -54,22 +58,23 @@ impl HopQueue {
     fn may_gain(&self, limit: usize, letter: LetterRef<'_>) -> bool
         ensures { result ≡ may_join limit self.now.held.open (letter_of letter.entry) }
     {
-        if self.gathering.count() == 0 {
+        if self.open.count() == 0 {
             return true;
         }
-        let taken = self.gathering.bytes_len();
+        let taken = self.open.bytes_len();
         taken <= limit && letter.spelled_len() <= limit - taken
     }
 
-    /// Appends a letter to the open batch. The first letter reserves the memory of the batch.
+    /// Appends a letter to the open batch. The first letter reserves the memory of the batch, and that to close it.
     fn gain(&mut self, limit: usize, letter: LetterRef<'_>) -> Result<(), AllocError>
         ensures ok { OnOk result (self.new.held ≡ record self.old.held { «open» = self.old.held.open ++ letter_of letter.entry ∷ [] }) }
         ensures err { OnErr result (self.new.held ≡ self.old.held) }
     {
-        if self.gathering.count() == 0 {
-            self.gathering.reserve(limit.max(letter.spelled_len()))?;
+        if self.open.count() == 0 {
+            self.closed.reserve(1)?;
+            self.open.reserve(limit.max(letter.spelled_len()))?;
         }
-        self.gathering.push(letter)
+        self.open.push(letter)
     }
 
     /// Adds a letter to the open batch, or to the next one.
@@ -86,34 +91,26 @@ impl HopQueue {
             return self.gain(limit, letter);
         }
         let next = begun(alloc, limit, letter)?;
-        self.make_room()?;
+        self.closed.reserve(2)?;
         self.close(next);
         Ok(())
     }
 
-    /// Makes room for one more closed batch.
-    pub(crate) fn make_room(&mut self) -> Result<(), AllocError>
-        ensures held { self.new.held ≡ self.old.held }
-        ensures room { OnOk result (1 ≤ self.new.room) }
-    {
-        self.closed.reserve(1)
-    }
-
-    /// Closes the open batch, and opens another. It takes no memory.
+    /// Closes the open batch, which has a letter, and opens another. It takes no memory.
     fn close(&mut self, next: Batch)
-        requires { 1 ≤ self.old.room }
+        requires some { 0 < length self.old.held.open }
+        requires room { kept_for next ≤ self.old.room }
         ensures { self.new.held ≡ record { closed = self.old.held.closed ++ self.old.held.open ∷ []; «open» = next } }
     {
-        let full = mem::replace(&mut self.gathering, next);
+        let full = mem::replace(&mut self.open, next);
         self.closed.push_back_reserved(full);
     }
 
     /// Closes the open batch if it has a letter. It takes no memory.
     pub(crate) fn close_up(&mut self, alloc: Global)
-        requires { 1 ≤ self.old.room }
         ensures { self.new.held ≡ closed_up self.old.held }
     {
-        if self.gathering.count() > 0 {
+        if self.open.count() > 0 {
             self.close(Batch::empty(alloc));
         }
     }
@@ -148,6 +145,6 @@ impl HopQueue {
         ensures none { result ≡ false → self.now.held ≡ empty_queue }
         ensures some { self.now.held ≡ empty_queue → result ≡ false }
     {
-        self.gathering.count() > 0 || !self.closed.is_empty()
+        self.open.count() > 0 || !self.closed.is_empty()
     }
 }

@@ -1,4 +1,5 @@
 pub mod Reasons
 pub mod AfterTurn
 pub mod Ended
+pub mod Flushed
 pub mod Stands

@@ -18,7 +18,7 @@ use Rattle.comm_rank.specs.declared.turn.Turn.{Turn}
 use Rattle.comm_rank.specs.Agrees.{Belongs, MayTurn}
 use Rattle.comm_rank.specs.Fault.{IfStopped, UnlessStopped}
 use Rattle.comm_rank.specs.Fold.{Applies}
-use Rattle.comm_rank.specs.Rank.{IsSameRank, Rank, handed, held_letters, local_of, sent_to}
+use Rattle.comm_rank.specs.Rank.{HasFlushed, IsSameRank, Rank, handed, held_letters, local_of, sent_to}
 use Rattle.comm_rank.specs.Turns.{Advanced, HasFailed, HasHalted, KeepsPost, LookedAt, NoneOrFull, PutsKeep, Turned}
 use Rattle.term_barrier.specs.declared.polled.Polled.{Polled}
 use Rattle.term_barrier.specs.declared.polled.Polled.TheVariants.{Left, Waiting as Waits}
@@ -202,9 +202,12 @@ abbrev pub PollFailed : {C : Type 0} → Applies C → (C → C) → BarrierStat
 PollFailed apply start old new one me before after fault =
     (HasFailed apply one me before after fault × (new ≡ old)) ⊎ PutFailed apply start old new one me before after fault
 
--- its turn met the stop, and did nothing; nor did the poll
-abbrev pub PollHalted : {C : Type 0} → BarrierState → BarrierState → Rank C → Rank C → PostState → PostState → Type 0
-PollHalted old new one me before after = HasHalted one me before after × (new ≡ old)
+-- its turn, with the rank's batches closed, met the stop, and did nothing; nor did the poll
+pub record PollHalted {C : Type 0} (old new : BarrierState) (one me : Rank C) (before after : PostState) : Type 0 where
+  pub rank : Rank C
+  pub flushed : HasFlushed one rank
+  pub halted : HasHalted rank me before after
+  pub barrier : new ≡ old
 
 -- what no call changes of a barrier
 pub record IsSameBarrier (old new : BarrierState) : Type 0 where

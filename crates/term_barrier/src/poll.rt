@@ -4,7 +4,8 @@ ghost use Rattle.world_core.specs.Post.{PostState};
 ghost use Rattle.comm_rank.specs.declared.fault.CommFault.TheVariants.{NoMemory, Stopped};
 ghost use Rattle.comm_rank.specs.Fault.{IfStopped, UnlessStopped};
 ghost use Rattle.comm_rank.specs.Rank.{IsSameRank, Rank, Worked as RankWorked, held_letters, local_of};
-ghost use Rattle.comm_rank.specs.Turns.{HasEnded, KeepsPost};
+ghost use Rattle.comm_rank.specs.Held.{NoneOpen};
+ghost use Rattle.comm_rank.specs.Turns.{HasEnded, HasHalted, KeepsPost};
 ghost use Rattle.term_barrier.specs.declared.polled.Waiting.TheVariants.{Worked, Link};
 ghost use Rattle.term_barrier.specs.Polls.{AfterTurn, BarrierEnded, BarrierFailed, IsAnswer, IsOtherReason, IsSameBarrier, PollEnded, PollFailed, PollHalted, PolledWaiting, PutsDue, Stands, either};
 
@@ -14,7 +15,7 @@ use std::sync::Wait;
 use world_core::Post;
 
 impl Barrier {
-    /// Gives the rank a turn, and then puts what is due of Counts and Totals. It returns whether the rank has left its
+    /// Closes the rank's batches, gives it a turn, and then puts what is due of Counts and Totals. It returns whether the rank has left its
     /// barrier, and if not, why.
     ///
     /// A rank puts its Count of a round once it knows the round before, holds no letter and none waits to run. Rank 0 puts
@@ -42,12 +43,10 @@ impl Barrier {
         ensures post { KeepsPost comm.old (P.state post.old) (P.state post.new) }
         ensures barrier { IsSameBarrier self.old self.new }
     {
-        let turn = comm.turn(post)?;
-        let polled = self.after_turn(comm, post, turn);
-        if polled.is_err() {
-            comm.halt(post);
-        }
-        polled
+        let Ok(()) = comm.flush() else {
+            unreachable!();
+        };
+        self.poll_flushed(comm, post)
     }
 
     /// Enters the next barrier, and polls until the rank has left it. It returns the number of the barrier and the round
@@ -78,6 +77,32 @@ impl Barrier {
         unreachable!()
     }
 
+    /// A poll of a rank whose batches are closed.
+    fn poll_flushed<H: Handler, P: Post>(
+        &mut self,
+        comm: &mut Comm<H>,
+        post: &mut P,
+    ) -> Result<Polled, CommFault>
+        requires going { comm.old.stopped ≡ false }
+        requires flushed { (to : ℕ) → to < comm.old.layout.ranks → NoneOpen comm.old.held to }
+        requires stands { Stands H.apply H.start self.old comm.old (P.state post.old) }
+        requires inside { self.old.inside ≡ true }
+        ensures ended { IfOk result (PollEnded H.apply H.start self.old self.new comm.old comm.new (P.state post.old) (P.state post.new)) }
+        ensures halted { IfErr result (λ fault. IfStopped fault (HasHalted comm.old comm.new (P.state post.old) (P.state post.new) × (self.new ≡ self.old))) }
+        ensures failed { IfErr result (λ fault. UnlessStopped fault (PollFailed H.apply H.start self.old self.new comm.old comm.new (P.state post.old) (P.state post.new) fault)) }
+        ensures sees_the_stop { (rank : ℕ) → IsTrue ((P.state post.old).serves rank) → (P.state post.old).raised rank ≡ true → result ≡ Err Stopped }
+        ensures rank { RankWorked (record comm.old { stopped = is_err result }) comm.new }
+        ensures post { KeepsPost comm.old (P.state post.old) (P.state post.new) }
+        ensures barrier { IsSameBarrier self.old self.new }
+    {
+        let turn = comm.turn(post)?;
+        let polled = self.after_turn(comm, post, turn);
+        if polled.is_err() {
+            comm.halt(post);
+        }
+        polled
+    }
+
     /// What a poll does after its turn: it takes in the control letters, leaves where the barrier ended, and otherwise
     /// puts what is due.
     fn after_turn<H: Handler, P: Post>(
@@ -90,7 +115,8 @@ impl Barrier {
         requires inside { self.old.inside ≡ true }
         ensures after { AfterTurn comm.old comm.new (P.state post.old) (P.state post.new) }
         ensures stands { Stands H.apply H.start self.new comm.new (P.state post.new) }
-        ensures answers { (one : Rank H) (before : PostState) → IsSameRank one comm.old → HasEnded H.apply H.start one comm.old before (P.state post.old) turn →
+        ensures answers { (one : Rank H) (before : PostState) → IsSameRank one comm.old →
+            ((to : ℕ) → to < one.layout.ranks → NoneOpen one.held to) → HasEnded H.apply H.start one comm.old before (P.state post.old) turn →
             IfOk result (IsAnswer self.old self.new (local_of comm.new ((P.state post.new).log comm.new.here)) before (P.state post.new) turn) }
         ensures due { OnOk result (self.new.inside ≡ true → PutsDue (held_letters comm.new) self.new (P.state post.old) (P.state post.new)) }
         ensures no_memory { IfErr result (λ fault. (fault ≡ NoMemory) × PolledWaiting self.old self.new) }

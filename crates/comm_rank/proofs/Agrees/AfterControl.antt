@@ -95,7 +95,17 @@ module _ {C : Type 0} (apply : Applies C) (start : C → C) (me : Rank C) (log :
   with_served : IsServed apply me.here me.layout.ranks (start me.contents) now → Agrees apply start me now
   with_served served = record {
     nothing_waits = agrees.nothing_waits;
-    forwards = λ f d other. agrees.forwards f d other ∙ sym (forward_still (local_of me log) to l f d none);
+    forwards = record {
+      held = λ f d other. agrees.forwards.held f d other ∙ sym (forward_still (local_of me log) to l f d none);
+      no_more_put = λ f d other.
+          let pair : of_pair f d (l ∷ []) ≡ [] = rw none refl in
+          omega (
+            arith,
+            agrees.forwards.no_more_put f d other,
+            ap length (pair_put-put f d log to (l ∷ []) ∙ ap (λ xs. pair_put f d log ++ xs) pair ∙ append-nil (pair_put f d log)),
+            ap length (pair_taken-put f d log to (l ∷ [])),
+          );
+    };
     sent_count =
         let one : sent_number me.here (l ∷ []) ≡ 0 = sent_number-one me.here l false (rw none refl) in
         omega (arith, agrees.sent_count, own_count-put me.here log to (l ∷ []), one);

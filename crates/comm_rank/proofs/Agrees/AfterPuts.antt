@@ -5,14 +5,15 @@ use Rattle.std.specs.List.{AllByRecursion, filter}
 use Rattle.std.proofs.lemmas.Grind.{flat_map-append}
 use Rattle.std.specs.Result.{IfErr, IfOk}
 use Rattle.msg_codec.specs.declared.letter.Letter.{Letter}
-use Rattle.ygm_route.specs.declared.scheme.Scheme.TheVariants.{Direct}
 use Rattle.ygm_route.specs.Layout.{Shape}
+use Rattle.send_buffers.specs.Buffers.{AreRouted, Buffered, queue_at, queued}
+use Rattle.comm_rank.proofs.Store.Queued.{none_held}
 use Rattle.world_core.specs.declared.entry.Entry.{Entry}
 use Rattle.world_core.specs.declared.entry.Entry.TheVariants.{Put, Took}
 use Rattle.world_core.specs.Limits.{most_letters}
-use Rattle.world_core.specs.Log.{IsPut, IsTake, batches_taken, letters_of, letters_put, letters_put_by, letters_taken}
+use Rattle.world_core.specs.Log.{IsPut, IsTake, batches_taken, letters_put, letters_put_by, letters_taken}
 use Rattle.world_core.specs.Modest.{IsModest}
-use Rattle.world_core.specs.Pairs.{arrived, for_rank, is_data, of_pair, own_count, sent_number}
+use Rattle.world_core.specs.Pairs.{arrived, for_rank, is_data, of_pair, own_count, sent, sent_number}
 use Rattle.world_core.specs.Post.{SamePost, PostState, local_at}
 use Rattle.world_core.specs.Rules.{IsHonest}
 use Rattle.list_facts.proofs.Elements.{all_append}
@@ -22,15 +23,15 @@ use Rattle.world_core.proofs.Modest.AfterPut.{modest_puts}
 use Rattle.list_facts.specs.Prefix.{IsSuffix}
 use Rattle.msg_codec.specs.Control.{is_control}
 use Rattle.list_facts.specs.Sublist.{IsSublist}
-use Rattle.comm_rank.specs.Agrees.{Agrees, Belongs, IsServed, MaySend, MayTurn, PutsData}
+use Rattle.comm_rank.specs.Agrees.{Agrees, Belongs, Forwards, IsServed, MaySend, MayTurn, PutsData}
 use Rattle.comm_rank.specs.Fold.{Applies, fold_from, handed_from}
 use Rattle.comm_rank.specs.declared.fault.CommFault.{CommFault}
 use Rattle.comm_rank.specs.Moves.{HasPutAll, HasPutEach, MayPut, Moved, PutAllFailed, PutOut, PutsFailed}
 use Rattle.comm_rank.specs.Rank.{Rank, held_letters, local_of, ran_at, sent_to}
-use Rattle.comm_rank.specs.Turns.{FirstFull, Gained}
+use Rattle.comm_rank.specs.Held.{AreData}
+use Rattle.comm_rank.specs.Store.{AreOf}
+use Rattle.comm_rank.specs.Turns.{FirstFull, Gained, PutsKeep}
 use Rattle.comm_rank.proofs.Agrees.Served.{served_more}
-use Rattle.comm_rank.proofs.Agrees.Direct.{nothing_to_forward}
-use Rattle.comm_rank.proofs.Store.Apart.{all_empty}
 
 -- ---- what a log took is unchanged when it gains puts
 
@@ -68,116 +69,147 @@ data_gained before after taken placed gained all =
 
 -- ---- the rank
 
-module _ {C : Type 0} (apply : Applies C) (start : C → C) (me : Rank C) (log : List Entry) (agrees : Agrees apply start me log) (direct : me.scheme ≡ Direct) where
-  -- it holds only its own letters
-  pub own_alone : (from to : ℕ) → from ≢ me.here → of_pair from to (held_letters me) ≡ []
-  own_alone from to other = agrees.forwards from to other ∙ nothing_to_forward (local_of me log) direct agrees.modest from to
-
-  module _ (held : List (List Letter)) (now : List Entry) (placed : List Entry) (gained : now ≡ log ++ placed) (puts : AllByRecursion IsPut placed) where
-    abbrev new : Rank C
-    new = record me { held = held }
-
-    pub ran_unchanged : ran_at new now ≡ ran_at me log
-    ran_unchanged =
-        let same : arrived me.here now ≡ arrived me.here log = ap (arrived me.here) gained ∙ ap (for_rank me.here) (same_taken placed log puts) in
-        ap (λ xs. take (length xs - length (for_rank me.here me.waiting)) xs) same
-
-    module _ (sent_unchanged : (to : ℕ) → sent_to new now to ≡ sent_to me log to)
-        (count_unchanged : own_count me.here now + sent_number me.here (letters_of held) ≡ own_count me.here log + sent_number me.here (held_letters me))
-        (alone : (from to : ℕ) → from ≢ me.here → of_pair from to (letters_of held) ≡ []) (more : PutsData placed) where
-      pub agrees_still : Agrees apply start new now
-      agrees_still =
-          let P : List Entry → Type 0 = λ l. IsModest (local_of me l) in
-          let modest : IsModest (local_of new now) = subst P (sym gained) (modest_puts (local_of me log) placed puts agrees.modest) in
-          record {
-            nothing_waits = agrees.nothing_waits;
-            forwards = λ from to other. alone from to other ∙ sym (nothing_to_forward (local_of new now) direct modest from to);
-            sent_count = agrees.sent_count ∙ sym count_unchanged;
-            run_count = agrees.run_count ∙ ap length (sym ran_unchanged);
-            contents = agrees.contents ∙ ap (fold_from apply me.here me.layout.ranks (start me.contents)) (sym ran_unchanged);
-            given_is_sent = λ to.
-                let Q : List Letter → List Letter → Type 0 = λ ran sent. IsSublist (of_pair me.here to (handed_from apply me.here me.layout.ranks (start me.contents) ran)) sent in
-                subst (λ ran. Q ran (sent_to new now to)) (sym ran_unchanged) (subst (λ sent. Q (ran_at me log) sent) (sym (sent_unchanged to)) (agrees.given_is_sent to));
-            modest = modest;
-            controls = subst (λ xs. IsSuffix me.controls (filter is_control xs)) (sym (ap letters_taken gained ∙ same_taken placed log puts)) agrees.controls;
-            served = subst (IsServed apply me.here me.layout.ranks (start me.contents)) (sym gained) (served_more apply me.here me.layout.ranks (start me.contents) log placed (no_counts placed more) agrees.served);
-          }
-
--- ---- from what puts did to what is held
-
 -- a rank that belongs to a post has the log that the post shows
 local_is : {C : Type 0} (apply : Applies C) (start : C → C) (me : Rank C) (post : PostState) → Belongs apply start me post → local_at post me.here ≡ local_of me (post.log me.here)
 local_is apply start me post belongs = (let a = belongs.layout in let b = belongs.scheme in cc)
 
-module _ {C : Type 0} (apply : Applies C) (start : C → C) (me : Rank C) (old : PostState) (belongs : Belongs apply start me old) (direct : me.scheme ≡ Direct) (may : MayTurn me (old.log me.here)) where
+-- The buffers of a rank are those of its place, with what it holds.
+pub record AreHeldBy {C : Type 0} (me : Rank C) (held : Buffered) : Type 0 where
+  pub are : AreOf me.layout me.scheme me.here held
+  pub queues : held.queues ≡ me.held
+
+module _ {C : Type 0} (apply : Applies C) (start : C → C) (me : Rank C) (old : PostState) (belongs : Belongs apply start me old) (may : MayTurn me (old.log me.here)) (held : Buffered) (are : AreHeldBy me held) where
   agrees : Agrees apply start me (old.log me.here)
   agrees = belongs.agrees
 
-  may_send : MaySend (local_at old me.here) me.held
-  may_send = subst (λ l. MaySend l me.held) (sym (local_is apply start me old belongs)) may
+  -- the same buffers, as the rank names its place
+  place_is : held ≡ record held { layout = me.layout; scheme = me.scheme; here = me.here; queues = me.held }
+  place_is =
+      ap (λ x. record held { layout = x }) are.are.layout_is
+      ∙ ap (λ x. record held { layout = me.layout; scheme = x }) are.are.scheme_is
+      ∙ ap (λ x. record held { layout = me.layout; scheme = me.scheme; here = x }) are.are.here_is
+      ∙ ap (λ x. record held { layout = me.layout; scheme = me.scheme; here = me.here; queues = x }) are.queues
 
-  pub may_put : me.here < me.layout.ranks → length me.held ≡ me.layout.ranks → me.sent_count ≤ most_letters → MayPut me.here me.held old
-  may_put within all few =
-      let ranks : old.layout.ranks ≡ me.layout.ranks = ap (λ (l : Shape). l.ranks) belongs.layout in
-      record {
-        all = all ∙ sym ranks;
-        within = omega (arith, within, ranks);
-        serves = belongs.serves;
-        direct = belongs.scheme ∙ direct;
-        own_alone = own_alone apply start me (old.log me.here) agrees direct;
-        few = omega (arith, few, agrees.sent_count);
-        may_send = may_send;
-      }
+  pub may_put : me.sent_count ≤ most_letters → MayPut held old
+  may_put few = subst (λ b. MayPut b old) (sym place_is) (record {
+    serves = belongs.serves;
+    layout = belongs.layout;
+    scheme = belongs.scheme;
+    data_alone = subst (λ qs. AreData (queued qs)) are.queues are.are.data_alone;
+    forwards = subst (λ l. Forwards l (held_letters me)) (sym (local_is apply start me old belongs)) agrees.forwards;
+    few = omega (arith, few, agrees.sent_count);
+    may_send = subst (λ l. MaySend l (held_letters me)) (sym (local_is apply start me old belongs)) may;
+  })
 
-  module _ (held : List (List Letter)) (new : PostState) (placed : List Entry) (moved : Moved me.here me.held held old new placed) where
-    put_out : PutOut me (record me { held = held }) (old.log me.here) (new.log me.here) placed
+  module _ (after : Buffered) (new : PostState) (placed : List Entry) (moved : Moved held after old new placed) (few : me.sent_count ≤ most_letters) where
+    abbrev here : ℕ
+    here = me.here
+
+    abbrev now : Rank C
+    now = record me { held = after.queues }
+
+    at_here : held.here ≡ here
+    at_here = are.are.here_is
+
+    log : new.log here ≡ old.log here ++ placed
+    log = (let P : ℕ → Type 0 = λ h. new.log h ≡ old.log h ++ placed in subst P at_here moved.log)
+
+    keeps : PutsKeep here old new
+    keeps = subst (λ h. PutsKeep h old new) at_here moved.keeps
+
+    sent_unchanged : (to : ℕ) → sent_to now (new.log here) to ≡ sent_to me (old.log here) to
+    sent_unchanged to =
+        (let P : ℕ → Type 0 = λ h. sent h to (new.log h) (queued after.queues) ≡ sent h to (old.log h) (queued held.queues) in subst P at_here (moved.sent_unchanged to))
+        ∙ ap (λ qs. sent here to (old.log here) (queued qs)) are.queues
+
+    count_unchanged : own_count here (new.log here) + sent_number here (queued after.queues) ≡ own_count here (old.log here) + sent_number here (held_letters me)
+    count_unchanged =
+        (let P : ℕ → Type 0 = λ h. own_count h (new.log h) + sent_number h (queued after.queues) ≡ own_count h (old.log h) + sent_number h (queued held.queues) in subst P at_here moved.count_unchanged)
+        ∙ ap (λ qs. own_count here (old.log here) + sent_number here (queued qs)) are.queues
+
+    -- what it may put now
+    may_put_now : MayPut after new
+    may_put_now = moved.may_put (may_put few)
+
+    after_here : after.here ≡ here
+    after_here = ap (λ (b : Buffered). b.here) moved.place ∙ at_here
+
+    local_now : local_at new after.here ≡ local_of now (new.log here)
+    local_now = (let a = after_here in let b = keeps.same.layout in let c = keeps.same.scheme in let d = belongs.layout in let e = belongs.scheme in cc)
+
+    ran_unchanged : ran_at now (new.log here) ≡ ran_at me (old.log here)
+    ran_unchanged =
+        let same : arrived here (new.log here) ≡ arrived here (old.log here) = ap (arrived here) log ∙ ap (for_rank here) (same_taken placed (old.log here) moved.puts) in
+        ap (λ xs. take (length xs - length (for_rank here me.waiting)) xs) same
+
+    put_out : PutOut me now (old.log here) (new.log here) placed
     put_out = record {
-      log = moved.log;
+      log = log;
       puts = moved.puts;
       data_alone = moved.data_alone;
       rank = refl;
-      sent = moved.sent_unchanged;
-      ran = ran_unchanged apply start me (old.log me.here) agrees direct held (new.log me.here) placed moved.log moved.puts;
+      sent = sent_unchanged;
+      same_open = λ next. moved.same_open next ∙ ap (λ qs. (queue_at qs next).open) are.queues;
+      ran = ran_unchanged;
     }
 
-    agrees_after : Agrees apply start (record me { held = held }) (new.log me.here)
-    agrees_after = agrees_still apply start me (old.log me.here) agrees direct held (new.log me.here) placed moved.log moved.puts moved.sent_unchanged moved.count_unchanged
-        (λ from to other. moved.none_more from to (own_alone apply start me (old.log me.here) agrees direct from to other)) moved.data_alone
+    agrees_after : Agrees apply start now (new.log here)
+    agrees_after =
+        let P : List Entry → Type 0 = λ l. IsModest (local_of me l) in
+        record {
+          nothing_waits = agrees.nothing_waits;
+          forwards = subst (λ l. Forwards l (queued after.queues)) local_now may_put_now.forwards;
+          sent_count = agrees.sent_count ∙ sym count_unchanged;
+          run_count = agrees.run_count ∙ ap length (sym ran_unchanged);
+          contents = agrees.contents ∙ ap (fold_from apply here me.layout.ranks (start me.contents)) (sym ran_unchanged);
+          given_is_sent = λ to.
+              let Q : List Letter → List Letter → Type 0 = λ ran sent. IsSublist (of_pair here to (handed_from apply here me.layout.ranks (start me.contents) ran)) sent in
+              subst (λ ran. Q ran (sent_to now (new.log here) to)) (sym ran_unchanged) (subst (λ sent. Q (ran_at me (old.log here)) sent) (sym (sent_unchanged to)) (agrees.given_is_sent to));
+          modest = subst P (sym log) (modest_puts (local_of me (old.log here)) placed moved.puts agrees.modest);
+          controls = subst (λ xs. IsSuffix me.controls (filter is_control xs)) (sym (ap letters_taken log ∙ same_taken placed (old.log here) moved.puts)) agrees.controls;
+          served = subst (IsServed apply here me.layout.ranks (start me.contents)) (sym log)
+              (served_more apply here me.layout.ranks (start me.contents) (old.log here) placed (no_counts placed moved.data_alone) agrees.served);
+        }
 
-    pub belongs_after : Belongs apply start (record me { held = held }) new
+    pub belongs_after : Belongs apply start now new
     belongs_after = record {
-      serves = moved.keeps.same.serves me.here ∙ belongs.serves;
-      layout = moved.keeps.same.layout ∙ belongs.layout;
-      scheme = moved.keeps.same.scheme ∙ belongs.scheme;
+      serves = keeps.same.serves here ∙ belongs.serves;
+      layout = keeps.same.layout ∙ belongs.layout;
+      scheme = keeps.same.scheme ∙ belongs.scheme;
       agrees = agrees_after;
     }
 
-    pub may_turn_after : MayTurn (record me { held = held }) (new.log me.here)
-    may_turn_after = subst (λ l. MaySend l held) (local_is apply start (record me { held = held }) new belongs_after) (moved.may_send may_send)
+    pub may_turn_after : MayTurn now (new.log here)
+    may_turn_after = subst (λ l. MaySend l (queued after.queues)) local_now may_put_now.may_send
 
-  pub has_put_all : (held : List (List Letter)) (new : PostState) (put : ℕ) (full : Option ℕ) (ranks : ℕ) → ranks ≡ me.layout.ranks → length me.held ≡ me.layout.ranks →
-      HasPutEach me.here ranks me.held held old new put full → HasPutAll me (record me { held = held }) old new put full
-  has_put_all held new put full ranks is all p = record {
+    pub puts_keep_after : PutsKeep here old new
+    puts_keep_after = keeps
+
+    pub honest_after : IsHonest (local_of me (old.log here)) → IsHonest (local_of me (new.log here))
+    honest_after h =
+        let P : ℕ → Type 0 = λ r. IsHonest (local_at old r) → IsHonest (local_at new r) in
+        let now_is : local_at new here ≡ local_of me (new.log here) = (let b = keeps.same.layout in let c = keeps.same.scheme in let d = belongs.layout in let e = belongs.scheme in cc) in
+        subst IsHonest now_is (subst P at_here moved.honest (subst IsHonest (sym (local_is apply start me old belongs)) h))
+
+  pub has_put_all : (after : Buffered) (new : PostState) (put : ℕ) (full : Option ℕ) (ranks : ℕ) → ranks ≡ me.layout.ranks → AreRouted after → me.sent_count ≤ most_letters →
+      HasPutEach ranks held after old new put full → HasPutAll me (record me { held = after.queues }) old new put full
+  has_put_all after new put full ranks is routed few p = record {
     placed = p.placed;
-    out = put_out held new p.placed p.moved;
+    out = put_out after new p.placed p.moved few;
     count = p.count;
     none_or_full = λ to within. p.none_or_full to (omega (arith, within, is));
-    first_full = subst (λ n. FirstFull n held old new full) is p.first_full;
-    none_held = λ none. all_empty held (λ to within. p.none_held none to (omega (arith, within, is, all, p.moved.all)));
+    first_full = subst (λ n. FirstFull n after.queues old new full) is p.first_full;
+    none_held = λ none gathered.
+        let size : length after.queues ≡ me.layout.ranks =
+        routed.all ∙ ap (λ (b : Buffered). b.layout.ranks) p.moved.place ∙ ap (λ (s : Shape). s.ranks) are.are.layout_is in
+        none_held after.queues (λ to within. p.none_closed none to (omega (arith, within, is, size))) (λ to within. gathered to (omega (arith, within, size)));
   }
 
-  pub put_all_failed : (held : List (List Letter)) (new : PostState) (fault : CommFault) → PutsFailed me.here me.held held old new fault → PutAllFailed me (record me { held = held }) old new fault
-  put_all_failed held new fault f = record { placed = f.placed; out = put_out held new f.placed f.moved; no_memory = f.no_memory }
+  pub put_all_failed : (after : Buffered) (new : PostState) (fault : CommFault) → me.sent_count ≤ most_letters → PutsFailed held after old new fault → PutAllFailed me (record me { held = after.queues }) old new fault
+  put_all_failed after new fault few f = record { placed = f.placed; out = put_out after new f.placed f.moved few; no_memory = f.no_memory }
 
 -- letters moved, whatever ended the puts
-pub moved_each : (here ranks : ℕ) (before after : List (List Letter)) (old new : PostState) (r : Result (ℕ × Option ℕ) CommFault) →
-    IfOk r (λ what. HasPutEach here ranks before after old new what.0 what.1) → IfErr r (PutsFailed here before after old new) → (placed : List Entry) × Moved here before after old new placed
-moved_each here ranks before after old now (Ok what) put failed = (put.placed, put.moved)
-moved_each here ranks before after old now (Err fault) put failed = (failed.placed, failed.moved)
-
-pub honest_moved : {C : Type 0} (apply : Applies C) (start : C → C) (me : Rank C) (here : ℕ) (old new : PostState) → here ≡ me.here → Belongs apply start me old → SamePost here old new →
-    (IsHonest (local_at old here) → IsHonest (local_at new here)) → IsHonest (local_of me (old.log me.here)) → IsHonest (local_of me (new.log me.here))
-honest_moved {C} apply start me here old new is belongs same keeps h =
-    let P : ℕ → Type 0 = λ r. IsHonest (local_at old r) → IsHonest (local_at new r) in
-    let now : local_at new me.here ≡ local_of me (new.log me.here) = (let a = same.layout in let b = same.scheme in let c = belongs.layout in let d = belongs.scheme in cc) in
-    subst IsHonest now (subst P is keeps (subst IsHonest (sym (local_is apply start me old belongs)) h))
+pub moved_each : (ranks : ℕ) (before after : Buffered) (old new : PostState) (r : Result (ℕ × Option ℕ) CommFault) →
+    IfOk r (λ what. HasPutEach ranks before after old new what.0 what.1) → IfErr r (PutsFailed before after old new) → (placed : List Entry) × Moved before after old new placed
+moved_each ranks before after old new (Ok what) put failed = (put.placed, put.moved)
+moved_each ranks before after old new (Err fault) put failed = (failed.placed, failed.moved)

@@ -1,4 +1,4 @@
--- A rank takes a batch, and runs its letters.
+-- A rank takes a batch, and its letters run or are held to be forwarded.
 use Rattle.std.proofs.Common.{◌≡◌, ◌≢◌, ℕ, ◌+◌, ◌≤◌, true, false, nat_eq, eq-eqb, ne_eqb, List, [], ◌∷◌, ◌++◌, length, refl, sym, ap, ◌∙◌, subst, inl, inr, arith, append-nil, append_assoc, length-append, if◌then◌else◌}
 use Rattle.std.specs.List.{AllByRecursion, filter}
 use Rattle.msg_codec.specs.Control.{is_control}
@@ -6,12 +6,11 @@ use Rattle.std.proofs.lemmas.List.{nil_from_length}
 use Rattle.std.proofs.lemmas.List.Elements.{filter-append}
 use Rattle.msg_codec.specs.declared.letter.Letter.{Letter}
 use Rattle.ygm_route.specs.declared.scheme.Scheme.{Scheme}
-use Rattle.ygm_route.specs.declared.scheme.Scheme.TheVariants.{Direct}
-use Rattle.ygm_route.specs.Layout.{Shape}
+use Rattle.ygm_route.specs.Layout.{IsLayout, Shape}
 use Rattle.world_core.specs.declared.entry.Entry.{Entry}
 use Rattle.world_core.specs.declared.entry.Entry.TheVariants.{Put, Took}
 use Rattle.world_core.specs.Limits.{most_arrived}
-use Rattle.world_core.specs.Local.{Local, to_forward}
+use Rattle.world_core.specs.Local.{Local}
 use Rattle.world_core.specs.Log.{batches_taken, letters_taken}
 use Rattle.world_core.specs.Modest.{IsModest}
 use Rattle.world_core.specs.Pairs.{arrived, for_rank, is_of_pair, of_pair, of_sender, own_count, pair_put, sent_number}
@@ -21,42 +20,40 @@ use Rattle.world_core.specs.ControlRules.{is_free}
 use Rattle.world_core.proofs.Counts.StaysFree.{free_took, stays_free}
 use Rattle.world_core.proofs.Deeds.Honest.{honest_more}
 use Rattle.world_core.proofs.Pairs.Appended.{pair_put-took}
-use Rattle.world_core.proofs.Pairs.Numbers.{own_count-took, run_number-is, sent_number-is, sent_number-nil}
+use Rattle.world_core.proofs.Pairs.Numbers.{own_count-took, run_number-is, sent_number-is}
 use Rattle.world_core.proofs.Log.Appended.{batches_taken-took, letters_taken-took}
 use Rattle.list_facts.specs.Prefix.{IsSuffix}
 use Rattle.list_facts.specs.Sublist.{IsSublist}
-use Rattle.comm_rank.specs.Agrees.{Agrees, Belongs, IsServed, MayTurn}
+use Rattle.comm_rank.specs.Agrees.{Agrees, Belongs, Forwards, IsServed, MayTurn}
 use Rattle.comm_rank.specs.Fold.{Applies, fold_from, handed_from}
-use Rattle.comm_rank.specs.Held.{Gains}
 use Rattle.comm_rank.specs.Rank.{Rank, IsSameRank, handed, held_letters, local_of, ran_at, sent_to}
 use Rattle.comm_rank.specs.declared.fault.CommFault.{CommFault}
 use Rattle.comm_rank.specs.declared.fault.CommFault.TheVariants.{NoMemory}
-use Rattle.comm_rank.specs.Running.{CutFrom, HasRunAll, IsControl, IsFor, NotLookedAt, StuckIn, TookFrom, WasCutFrom, begins_with_control, for_handlers}
+use Rattle.comm_rank.specs.Running.{CutFrom, GainsBoth, HasPassed, IsControl, IsTaken, NotLookedAt, StuckIn, TookFrom, WasCutFrom, begins_with_control, elsewhere, for_handlers}
 use Rattle.comm_rank.specs.Turns.{Advanced}
 use Rattle.list_facts.proofs.Sublist.{sublist_append}
 use Rattle.comm_rank.proofs.Agrees.Served.{served_more, suffix_longer}
-use Rattle.comm_rank.proofs.Agrees.Arrived.{Brings, arrived-took, brings, for_all, forward_same, is_read, its_controls, none_of_others, own_number, ran_all, ran_is}
+use Rattle.comm_rank.proofs.Agrees.Arrived.{Brings, arrived-took, brings, forward_more, is_read, its_controls, no_more_put, ran_all, ran_is}
 use Rattle.comm_rank.proofs.Fold.Appended.{fold-append, handed-append, start_fold}
-use Rattle.comm_rank.proofs.Running.RunAll.{rest_for}
 use Rattle.comm_rank.proofs.Turns.Faults.{if_full}
 
 -- ---- the letters of the batch wait
 
-pub ran_waiting : {C : Type 0} (apply : Applies C) (was old new : Rank C) (waiting batch : List Letter) → was ≡ old → waiting ≡ batch →
-    HasRunAll apply (record was { waiting = waiting }) new waiting → HasRunAll apply old new batch
-ran_waiting {C} apply was old new waiting batch e f h =
-    let there : HasRunAll apply was new waiting = record { contents = h.contents; held = h.held; lawful = h.lawful; run_count = h.run_count; sent_count = h.sent_count } in
-    subst (λ (me : Rank C). HasRunAll apply me new batch) e (subst (HasRunAll apply was new) f there)
+pub passed_waiting : {C : Type 0} (apply : Applies C) (was old new : Rank C) (waiting batch : List Letter) → was ≡ old → waiting ≡ batch →
+    HasPassed apply (record was { waiting = waiting }) new waiting → HasPassed apply old new batch
+passed_waiting {C} apply was old new waiting batch e f h =
+    let there : HasPassed apply was new waiting = record { contents = h.contents; held = h.held; run_count = h.run_count; sent_count = h.sent_count } in
+    subst (λ (me : Rank C). HasPassed apply me new batch) e (subst (HasPassed apply was new) f there)
 
 pub stuck_waiting : {C : Type 0} (apply : Applies C) (was old new : Rank C) (waiting batch : List Letter) → was ≡ old → waiting ≡ batch →
     (fault : CommFault) → StuckIn apply (record was { waiting = waiting }) new waiting fault → StuckIn apply old new batch fault
 stuck_waiting {C} apply was old new waiting batch e f fault h =
     let s = h.stuck in
     let there : StuckIn apply was new waiting fault = record {
-      run = h.run;
+      letters = h.letters;
       given = h.given;
       waits = h.waits;
-      stuck = record { begun = s.begun; held = s.held; lawful = s.lawful; run_count = s.run_count; sent_count = s.sent_count };
+      stuck = record { begun = s.begun; held = s.held; run_count = s.run_count; sent_count = s.sent_count };
       full_at_first = if_full fault (λ _ b. record { next = b.next; waits = b.waits; too_many = b.too_many }) h.full_at_first;
       cause = record { count_full = h.cause.count_full; gave = h.cause.gave; never_stopped = h.cause.never_stopped };
     } in
@@ -93,19 +90,23 @@ taken_other from other batch log after is ne =
 
 -- ---- the rank afterwards
 
-module _ {C : Type 0} (apply : Applies C) (old new : Rank C) (log after : List Entry) (from : ℕ) (batch run : List Letter) (same : IsSameRank old new) (gained : after ≡ log ++ Took from batch ∷ [])
-    (brings : Brings old.here batch run) (kept : new.controls ≡ old.controls ++ filter is_control batch) where
+module _ {C : Type 0} (apply : Applies C) (old new : Rank C) (log after : List Entry) (from : ℕ) (batch letters : List Letter) (same : IsSameRank old new) (gained : after ≡ log ++ Took from batch ∷ [])
+    (brings : Brings old.layout.ranks old.here batch letters) (kept : new.controls ≡ old.controls ++ filter is_control batch) where
+  -- those of its letters that run
+  abbrev run : List Letter
+  run = for_rank old.here letters
+
   pub arrived_now : arrived old.here after ≡ arrived old.here log ++ run
   arrived_now = ap (arrived old.here) gained ∙ arrived-took old.here log from batch ∙ ap (λ xs. arrived old.here log ++ xs) brings.for_here
 
   pub arrived_there : arrived new.here after ≡ arrived old.here log ++ run
   arrived_there = ap (λ h. arrived h after) same.here ∙ arrived_now
 
-  sent_more : (given : List Letter) → Gains (held_letters old) (held_letters new) given → (to : ℕ) → sent_to new after to ≡ sent_to old log to ++ of_pair old.here to given
-  sent_more given gains to =
+  sent_more : (given others : List Letter) → GainsBoth old.here (held_letters old) (held_letters new) given others → (to : ℕ) → sent_to new after to ≡ sent_to old log to ++ of_pair old.here to given
+  sent_more given others gains to =
       ap (λ h. pair_put h to after ++ of_pair h to (held_letters new)) same.here
       ∙ ap (λ xs. xs ++ of_pair old.here to (held_letters new)) (ap (pair_put old.here to) gained ∙ pair_put-took old.here to log from batch)
-      ∙ ap (λ xs. pair_put old.here to log ++ xs) (gains.pairs old.here to)
+      ∙ ap (λ xs. pair_put old.here to log ++ xs) (gains.own to)
       ∙ sym (append_assoc (pair_put old.here to log) (of_pair old.here to (held_letters old)) (of_pair old.here to given))
 
   one_taken : for_rank old.here (letters_taken (Took from batch ∷ [])) ≡ run
@@ -118,98 +119,115 @@ module _ {C : Type 0} (apply : Applies C) (old new : Rank C) (log after : List E
   ran_old : old.waiting ≡ [] → arrived old.here log ≡ ran_at old log
   ran_old none = sym (ran_all old log none)
 
-  pub advanced : old.waiting ≡ [] → new.waiting ≡ [] → HasRunAll apply old new run → Advanced apply old new log after run
-  advanced before none ran = record {
+  pub advanced : old.waiting ≡ [] → new.waiting ≡ [] → HasPassed apply old new letters → Advanced apply old new log after run
+  advanced before none passed = record {
     ran = ran_all new after none ∙ arrived_there ∙ ap (λ xs. xs ++ run) (ran_old before);
-    contents = ran.contents;
-    sent = sent_more (handed apply old run) ran.held;
-    run_count = ran.run_count;
-    sent_count = ran.sent_count;
+    contents = passed.contents;
+    sent = sent_more (handed apply old run) (elsewhere old.here letters) passed.held;
+    run_count = passed.run_count;
+    sent_count = passed.sent_count;
   }
 
-  pub took_from : old.waiting ≡ [] → new.waiting ≡ [] → HasRunAll apply old new run → TookFrom from apply old new log after 1
-  took_from before none ran = record {
+  pub took_from : old.waiting ≡ [] → new.waiting ≡ [] → HasPassed apply old new letters → TookFrom from apply old new log after 1
+  took_from before none passed = record {
     all = record {
       taken = Took from batch ∷ [];
       gained = record { log = gained; takes = (tt, tt); in_order = λ i j d less within. absurd (omega (arith, less, within)) };
-      advanced = subst (Advanced apply old new log after) (sym one_taken) (advanced before none ran);
+      advanced = subst (Advanced apply old new log after) (sym one_taken) (advanced before none passed);
       nothing_waits = none;
       controls = kept_one;
       took_count = refl;
+      same_open = λ none_taken. absurd (omega (arith, none_taken));
     };
     alone = (refl, tt);
     one = omega arith;
   }
 
-  ran_some : old.waiting ≡ [] → (part : List Letter) → run ≡ part ++ new.waiting → ran_at new after ≡ ran_at old log ++ part
-  ran_some before part waits =
-      ran_is new after (ran_at old log ++ part) new.waiting
-      (arrived_there ∙ ap (λ xs. xs ++ run) (ran_old before) ∙ ap (λ xs. ran_at old log ++ xs) waits ∙ sym (append_assoc (ran_at old log) part new.waiting))
-      (for_all new.here new.waiting (rest_for new.here old.here run part new.waiting waits same.here brings.all_for))
+  module _ (before : old.waiting ≡ []) (fault : CommFault) (stuck : StuckIn apply old new letters fault) where
+    -- of the letters for the rank, those that passed ran, and the others wait
+    abbrev part : List Letter
+    part = for_rank old.here stuck.letters
 
-  cut_at : old.waiting ≡ [] → (fault : CommFault) → StuckIn apply old new run fault → CutFrom from apply old new log after
-  cut_at before fault stuck =
-      let rest : AllByRecursion (IsFor new.here) new.waiting = rest_for new.here old.here run stuck.run new.waiting stuck.waits same.here brings.all_for in
-      let rest_there : for_rank old.here new.waiting ≡ new.waiting = for_all old.here new.waiting (subst (λ h. AllByRecursion (IsFor h) new.waiting) same.here rest) in
-      record {
-        cut = record {
-          taken = Took from batch ∷ [];
-          placed = [];
-          run = stuck.run;
-          given = stuck.given;
-          gained = record { log = gained ∙ sym (append-nil _); takes = (tt, tt); in_order = λ i j d less within. absurd (omega (arith, less, within)); puts = tt; data_alone = tt };
-          arrived = one_taken ∙ stuck.waits ∙ ap (λ xs. stuck.run ++ xs) (sym rest_there);
-          ran = ran_some before stuck.run stuck.waits;
-          controls = kept_one;
-          begun = stuck.stuck.begun;
-          sent = sent_more (handed apply old stuck.run ++ stuck.given) stuck.stuck.held;
-          run_count = stuck.stuck.run_count;
-          sent_count = stuck.stuck.sent_count;
-        };
-        none_placed = refl;
-        alone = (refl, tt);
-        one = omega arith;
-      }
+    parts : run ≡ part ++ for_rank old.here new.waiting
+    parts = ap (for_rank old.here) stuck.waits ∙ filter-append _ stuck.letters new.waiting
 
-  pub cut_from : old.waiting ≡ [] → (fault : CommFault) → StuckIn apply old new run fault → WasCutFrom from apply old new log after fault
-  cut_from before fault stuck = record {
-    cut_from = cut_at before fault stuck;
-    full_at_first = if_full fault (λ _ full. record { run = stuck.run; ran = ran_some before stuck.run stuck.waits; full = full }) stuck.full_at_first;
-    cause = stuck.cause;
-  }
+    ran_some : ran_at new after ≡ ran_at old log ++ part
+    ran_some =
+        ran_is new after (ran_at old log ++ part) (for_rank old.here new.waiting)
+        (arrived_there ∙ ap (λ xs. xs ++ run) (ran_old before) ∙ ap (λ xs. ran_at old log ++ xs) parts ∙ sym (append_assoc (ran_at old log) part (for_rank old.here new.waiting)))
+        (ap (λ h. for_rank h new.waiting) same.here)
+
+    cut_at : CutFrom from apply old new log after
+    cut_at = record {
+      cut = record {
+        taken = Took from batch ∷ [];
+        placed = [];
+        run = part;
+        given = stuck.given;
+        gained = record { log = gained ∙ sym (append-nil _); takes = (tt, tt); in_order = λ i j d less within. absurd (omega (arith, less, within)); puts = tt; data_alone = tt };
+        arrived = one_taken ∙ parts;
+        ran = ran_some;
+        controls = kept_one;
+        begun = stuck.stuck.begun;
+        sent = sent_more (handed apply old part ++ stuck.given) (elsewhere old.here stuck.letters) stuck.stuck.held;
+        run_count = stuck.stuck.run_count;
+        sent_count = stuck.stuck.sent_count;
+      };
+      none_placed = refl;
+      alone = (refl, tt);
+      one = omega arith;
+    }
+
+    pub cut_from : WasCutFrom from apply old new log after fault
+    cut_from = record {
+      cut_from = cut_at;
+      full_at_first = if_full fault (λ _ full. record { run = part; ran = ran_some; full = full }) stuck.full_at_first;
+      cause = stuck.cause;
+    }
 
   -- Letters for the rank free its log. Without them it holds what it held.
-  pub may_turn_now : HasRunAll apply old new run → MayTurn old log → MayTurn new after
-  may_turn_now ran may =
+  pub may_turn_now : HasPassed apply old new letters → MayTurn old log → MayTurn new after
+  may_turn_now passed may =
       let here = old.here in
       let now : local_of old (log ++ Took from batch ∷ []) ≡ local_of new after = ap (local_of old) (sym gained) ∙ local_is old new after same in
       elim may [
         | inl free ↦ inl (ap is_free (sym now) ∙ stays_free (local_of old log) (Took from batch) refl free)
-        | inr none ↦ by_run run brings.for_here ran none now
+        | inr none ↦ by_run run refl (passed.held.number) none now
       ]
     where
-      by_run : (xs : List Letter) → for_rank old.here batch ≡ xs → HasRunAll apply old new xs → of_sender old.here (held_letters old) ≡ [] →
-          local_of old (log ++ Took from batch ∷ []) ≡ local_of new after → MayTurn new after
-      by_run [] is ran none now =
+      by_run : (xs : List Letter) → run ≡ xs → sent_number old.here (held_letters new) ≡ sent_number old.here (held_letters old) + length (handed apply old xs) →
+          of_sender old.here (held_letters old) ≡ [] → local_of old (log ++ Took from batch ∷ []) ≡ local_of new after → MayTurn new after
+      by_run [] is number none now =
           let P : ℕ → Type 0 = λ h. of_sender h (held_letters new) ≡ [] in
           inr (subst P (sym same.here) (nil_from_length _ (omega (
             arith,
-            ran.held.senders old.here,
+            number,
             ap length none,
-            sent_number-nil old.here,
             sent_number-is old.here (held_letters old),
             sent_number-is old.here (held_letters new),
           ))))
-      by_run (l ∷ xs) is ran none now =
-          inl (ap is_free (sym now) ∙ free_took (local_of old log) from batch (omega (arith, run_number-is old.here batch, ap length is)))
+      by_run (l ∷ xs) is number none now =
+          inl (ap is_free (sym now) ∙ free_took (local_of old log) from batch (omega (arith, run_number-is old.here batch, ap length (brings.for_here ∙ is))))
+
+  -- what the rank took of a pair and doesn't run is held to be forwarded
+  forwards_now : Forwards (local_of old log) (held_letters old) → HasPassed apply old new letters → Forwards (local_of new after) (held_letters new)
+  forwards_now before passed =
+      let now : local_of old (log ++ Took from batch ∷ []) ≡ local_of new after = ap (local_of old) (sym gained) ∙ local_is old new after same in
+      let there : Forwards (local_of old (log ++ Took from batch ∷ [])) (held_letters new) = record {
+        held = λ f to other.
+            passed.held.others f to other ∙ ap (λ xs. xs ++ of_pair f to (elsewhere old.here letters)) (before.held f to other)
+            ∙ sym (forward_more (local_of old log) from batch letters brings f to other (before.no_more_put f to other));
+        no_more_put = λ f to other. no_more_put (local_of old log) from batch letters brings f to other (before.no_more_put f to other);
+      } in
+      subst (λ (me : Local). Forwards me (held_letters new)) now there
 
   module _ (start : C → C) (keeps : (c : C) (here ranks : ℕ) (l : Letter) → start (apply c here ranks l).0 ≡ start c) (agrees : Agrees apply start old log) where
-    pub agrees_now : new.waiting ≡ [] → HasRunAll apply old new run → IsModest (local_of old after) → Agrees apply start new after
-    agrees_now none ran modest =
-        let adv = advanced agrees.nothing_waits none ran in
+    pub agrees_now : new.waiting ≡ [] → HasPassed apply old new letters → IsModest (local_of old after) → Agrees apply start new after
+    agrees_now none passed modest =
+        let adv = advanced agrees.nothing_waits none passed in
         let here = old.here in
         let n = old.layout.ranks in
-        let started : start new.contents ≡ start old.contents = ap start ran.contents ∙ start_fold apply start keeps here n old.contents run in
+        let started : start new.contents ≡ start old.contents = ap start passed.contents ∙ start_fold apply start keeps here n old.contents run in
         let given = handed apply old run in
         let at_start : handed_from apply here n (start old.contents) (ran_at new after) ≡ handed_from apply here n (start old.contents) (ran_at old log) ++ given =
         ap (handed_from apply here n (start old.contents)) adv.ran ∙ handed-append apply here n (start old.contents) (ran_at old log) run
@@ -219,18 +237,14 @@ module _ {C : Type 0} (apply : Applies C) (old new : Rank C) (log after : List E
         let ranks : new.layout.ranks ≡ n = ap (λ (s : Shape). s.ranks) same.layout in
         record {
           nothing_waits = none;
-          forwards = λ f to ne.
-              let other : f ≢ here = λ e. ne (e ∙ sym same.here) in
-              ran.held.pairs f to ∙ ap (λ xs. of_pair f to (held_letters old) ++ xs) (none_of_others here f to given other ran.lawful) ∙ append-nil (of_pair f to (held_letters old))
-              ∙ agrees.forwards f to other ∙ sym (forward_same (local_of old log) from batch brings.others f to)
-              ∙ ap (λ (me : Local). to_forward me f to) (ap (local_of old) (sym gained) ∙ local_is old new after same);
+          forwards = forwards_now agrees.forwards passed;
           sent_count =
               let put : own_count new.here after ≡ own_count here log = ap (λ h. own_count h after) same.here ∙ ap (own_count here) gained ∙ own_count-took here log from batch in
               let held : sent_number new.here (held_letters new) ≡ sent_number here (held_letters new) = ap (λ h. sent_number h (held_letters new)) same.here in
-              omega (arith, put, held, ran.sent_count, agrees.sent_count, ran.held.senders here, own_number here given ran.lawful);
-          run_count = omega (arith, ran.run_count, agrees.run_count, ap length adv.ran, length-append (ran_at old log) run);
+              omega (arith, put, held, passed.sent_count, agrees.sent_count, passed.held.number);
+          run_count = omega (arith, passed.run_count, agrees.run_count, ap length adv.ran, length-append (ran_at old log) run);
           contents =
-              ran.contents ∙ ap (λ c. fold_from apply here n c run) agrees.contents ∙ sym (fold-append apply here n (start old.contents) (ran_at old log) run)
+              passed.contents ∙ ap (λ c. fold_from apply here n c run) agrees.contents ∙ sym (fold-append apply here n (start old.contents) (ran_at old log) run)
               ∙ ap (fold_from apply here n (start old.contents)) (sym adv.ran)
               ∙ ap (λ c. fold_from apply here n c (ran_at new after)) (sym started)
               ∙ ap (λ m. fold_from apply here m (start new.contents) (ran_at new after)) (sym ranks)
@@ -287,13 +301,13 @@ cut_before {C} from apply me log none fault is = subst (WasCutFrom from apply me
 pub record Arrival {C : Type 0} (old : Rank C) (before state : PostState) (from : ℕ) (batch : List Letter) : Type 0 where
   pub gained : state.log old.here ≡ before.log old.here ++ Took from batch ∷ []
   pub modest : IsModest (local_of old (state.log old.here))
-  pub brings : Brings old.here batch (for_handlers batch)
+  pub brings : Brings old.layout.ranks old.here batch (for_handlers batch)
   pub controls : filter is_control batch ≡ (if begins_with_control batch then batch else [])
   pub read : begins_with_control batch ≡ true → IsControl batch
 
 pub arrival : {C : Type 0} (apply : Applies C) (start : C → C) (old : Rank C) (there : ℕ) (before state : PostState) (from : ℕ) (batch : List Letter) → there ≡ old.here → SamePost there before state →
-    Belongs apply start old before → old.scheme ≡ Direct → TookBatch there from batch before state → Arrival old before state from batch
-arrival {C} apply start old there before state from batch here same belongs direct took =
+    Belongs apply start old before → IsLayout old.layout → TookBatch there from batch before state → Arrival old before state from batch
+arrival {C} apply start old there before state from batch here same belongs laid_out took =
     let P : ℕ → Type 0 = λ h. state.log h ≡ before.log h ++ Took from batch ∷ [] in
     let M : ℕ → Type 0 = λ h. IsModest (local_at state h) in
     let gained : P old.here = subst P here took.log in
@@ -302,34 +316,36 @@ arrival {C} apply start old there before state from batch here same belongs dire
     record {
       gained = gained;
       modest = at_old;
-      brings = brings (local_of old (before.log old.here)) from batch direct (subst N gained at_old);
-      controls = its_controls (local_of old (before.log old.here)) from batch direct (subst N gained at_old);
-      read = is_read (local_of old (before.log old.here)) from batch direct (subst N gained at_old);
+      brings = brings (local_of old (before.log old.here)) from batch laid_out (subst N gained at_old);
+      controls = its_controls (local_of old (before.log old.here)) from batch laid_out (subst N gained at_old);
+      read = is_read (local_of old (before.log old.here)) from batch laid_out (subst N gained at_old);
     }
 
 pub few_run : {C : Type 0} (apply : Applies C) (start : C → C) (old : Rank C) (before state : PostState) (from : ℕ) (batch : List Letter) → Arrival old before state from batch →
-    Agrees apply start old (before.log old.here) → old.run_count + length (for_handlers batch) ≤ most_arrived
+    Agrees apply start old (before.log old.here) → old.run_count + length (for_rank old.here (for_handlers batch)) ≤ most_arrived
 few_run apply start old before state from batch a agrees =
     let log = before.log old.here in
     let now = state.log old.here in
-    let there : arrived old.here now ≡ arrived old.here log ++ for_handlers batch =
+    let run = for_rank old.here (for_handlers batch) in
+    let there : arrived old.here now ≡ arrived old.here log ++ run =
     ap (arrived old.here) a.gained ∙ arrived-took old.here log from batch ∙ ap (λ xs. arrived old.here log ++ xs) a.brings.for_here in
     omega (
       arith,
       agrees.run_count,
       ap length (ran_all old log agrees.nothing_waits),
       ap length there,
-      length-append (arrived old.here log) (for_handlers batch),
+      length-append (arrived old.here log) run,
       a.modest.few,
       run_number-is old.here (letters_taken now),
     )
 
-pub waiting_for : {C : Type 0} (was old : Rank C) (batch waiting : List Letter) → was ≡ old → waiting ≡ batch → AllByRecursion (IsFor old.here) batch → AllByRecursion (IsFor was.here) waiting
-waiting_for {C} was old batch waiting e f all =
-    subst (λ h. AllByRecursion (IsFor h) waiting) (sym (ap (λ (me : Rank C). me.here) e)) (subst (AllByRecursion (IsFor old.here)) (sym f) all)
+pub waiting_taken : {C : Type 0} (was old : Rank C) (batch waiting : List Letter) → was ≡ old → waiting ≡ batch → AllByRecursion (IsTaken old.layout.ranks old.here) batch → AllByRecursion (IsTaken was.layout.ranks was.here) waiting
+waiting_taken {C} was old batch waiting e f all =
+    subst (λ (me : Rank C). AllByRecursion (IsTaken me.layout.ranks me.here) waiting) (sym e) (subst (AllByRecursion (IsTaken old.layout.ranks old.here)) (sym f) all)
 
-pub few_waiting : {C : Type 0} (was old : Rank C) (batch waiting : List Letter) → was ≡ old → waiting ≡ batch → old.run_count + length batch ≤ most_arrived → was.run_count + length waiting ≤ most_arrived
-few_waiting {C} was old batch waiting e f few = omega (arith, ap (λ (me : Rank C). me.run_count) e, ap length f, few)
+pub few_waiting : {C : Type 0} (was old : Rank C) (batch waiting : List Letter) → was ≡ old → waiting ≡ batch → old.run_count + length (for_rank old.here batch) ≤ most_arrived → was.run_count + length (for_rank was.here waiting) ≤ most_arrived
+few_waiting {C} was old batch waiting e f few =
+    subst (λ (me : Rank C). me.run_count + length (for_rank me.here waiting) ≤ most_arrived) (sym e) (subst (λ xs. old.run_count + length (for_rank old.here xs) ≤ most_arrived) (sym f) few)
 
 pub same_from : {C : Type 0} (was old new : Rank C) (waiting : List Letter) → was ≡ old → IsSameRank (record was { waiting = waiting }) new → IsSameRank old new
 same_from {C} was old new waiting e same =

@@ -1,41 +1,37 @@
 -- What a log has after it gained a take, and what ran then.
-use Rattle.std.proofs.Common.{◌≡◌, ◌≢◌, ℕ, ◌-◌, Bool, true, false, ◌&&◌, ◌||◌, not, is_some, Some, None, nat_eq, eqb-true, eq-eqb, List, [], ◌∷◌, ◌++◌, length, take, drop, refl, sym, ap, ◌∙◌, subst, inl, inr, arith, append-nil, length-append, if◌then◌else◌}
+use Rattle.std.proofs.Common.{◌≡◌, ◌≢◌, ℕ, ◌-◌, ◌<◌, ◌≤◌, ◌==◌, lt-ltb, ne_eqb, Bool, true, false, cond, ◌&&◌, ◌||◌, not, is_some, Some, None, nat_eq, eqb-true, eq-eqb, List, [], ◌∷◌, ◌++◌, length, take, drop, refl, sym, ap, ◌∙◌, subst, inl, inr, arith, append-nil, length-append, if◌then◌else◌}
 use Rattle.std.specs.Bool.{IsTrue}
 use Rattle.std.specs.List.{AllByRecursion, filter, list_any}
 use Rattle.std.proofs.Math.Seq.{take-append_seam}
-use Rattle.std.proofs.lemmas.Bool.{false_from_ne_true, false≢true}
+use Rattle.std.proofs.lemmas.Bool.{cases_eq, false_from_ne_true, false≢true}
+use Rattle.std.proofs.lemmas.List.{drop-append-le}
 use Rattle.std.proofs.lemmas.List.Elements.{filter-append}
 use Rattle.msg_codec.specs.Control.{control_of_letter, is_control, is_count, is_total, round_of, sent_of, run_of}
 use Rattle.msg_codec.specs.declared.control.Control.TheVariants.{Count, Total}
 use Rattle.msg_codec.specs.declared.letter.Letter.{Letter}
-use Rattle.ygm_route.specs.declared.scheme.Scheme.TheVariants.{Direct}
+use Rattle.ygm_route.specs.Layout.{IsLayout}
 use Rattle.world_core.specs.declared.entry.Entry.{Entry}
 use Rattle.world_core.specs.declared.entry.Entry.TheVariants.{Took}
 use Rattle.world_core.specs.ControlRules.{wrong_control}
-use Rattle.world_core.specs.Local.{Local, to_forward, is_rank, local_rank}
+use Rattle.world_core.specs.Local.{Local, is_rank, local_rank, to_forward}
 use Rattle.world_core.specs.Log.{letters_taken}
 use Rattle.world_core.specs.Modest.{IsLawful, IsModest}
 use Rattle.world_core.specs.Pairs.{arrived, for_rank, is_data, is_of_pair, of_pair, pair_put, pair_taken, sent_number}
+use Rattle.world_core.proofs.Local.ToForward.{forwards_between, may_forward, none_for_itself}
 use Rattle.world_core.proofs.Pairs.Appended.{pair_put-took, pair_taken-took}
 use Rattle.world_core.proofs.Pairs.Numbers.{sent_number-append, sent_number-nil, sent_number-one}
+use Rattle.world_core.proofs.Pairs.OfPair.{pair_of}
 use Rattle.world_core.proofs.Log.Appended.{letters_taken-took}
 use Rattle.world_core.proofs.Deeds.TwoKinds.{control_not_data, data_not_count, data_not_total}
 use Rattle.world_core.proofs.Modest.Lawful.{batch_kind, lawful_batch}
 use Rattle.list_facts.proofs.Elements.{all_second, all_weaker, both_of}
-use Rattle.list_facts.proofs.Filters.{filter_none}
+use Rattle.list_facts.proofs.Filters.{filter_none, filter_within}
 use Rattle.list_facts.proofs.Tests.{and_first, and_second, or_false_first}
 use Rattle.comm_rank.specs.Rank.{Rank, ran_at}
-use Rattle.comm_rank.specs.Running.{IsControl, IsFor, IsOf, begins_with_control, for_handlers}
-use Rattle.comm_rank.proofs.Agrees.Direct.{taken_here}
+use Rattle.comm_rank.specs.Running.{IsControl, IsOf, IsTaken, begins_with_control, elsewhere, for_handlers}
+use Rattle.comm_rank.proofs.Agrees.NoneReturns.{are_taken}
 
--- ---- letters for a rank, and from it
-
-pub for_all : (here : ℕ) (xs : List Letter) → AllByRecursion (IsFor here) xs → for_rank here xs ≡ xs
-for_all here [] h = refl
-for_all here (x ∷ xs) h =
-    let tag : is_data x ≡ true = h.0.tag in
-    let to : nat_eq x.to here ≡ true = eq-eqb x.to here h.0.destination in
-    rw (tag, to) (ap (λ ys. x ∷ ys) (for_all here xs h.1))
+-- ---- letters of a rank
 
 -- each data letter of a rank counts for it
 pub own_one : (here : ℕ) (l : Letter) → IsTrue (is_data l) → l.from ≡ here → sent_number here (l ∷ []) ≡ 1
@@ -50,42 +46,79 @@ none_of_others here from to xs ne all =
     filter_none (is_of_pair from to) xs (all_weaker (IsOf here) (λ l. is_of_pair from to l ≡ false) xs
     (λ l h. false_from_ne_true _ (λ yes. ne (sym (eqb-true _ _ (and_second _ _ (and_first _ _ yes))) ∙ h.sender))) all)
 
-none_to_others : (here from to : ℕ) (xs : List Letter) → here ≢ to → AllByRecursion (IsFor here) xs → of_pair from to xs ≡ []
-none_to_others here from to xs ne all =
-    filter_none (is_of_pair from to) xs (all_weaker (IsFor here) (λ l. is_of_pair from to l ≡ false) xs
-    (λ l h. false_from_ne_true _ (λ yes. ne (sym h.destination ∙ eqb-true _ _ (and_second _ _ yes)))) all)
-
 -- ---- a take
 
 pub arrived-took : (here : ℕ) (log : List Entry) (from : ℕ) (batch : List Letter) → arrived here (log ++ Took from batch ∷ []) ≡ arrived here log ++ for_rank here batch
 arrived-took here log from batch = ap (for_rank here) (letters_taken-took log from batch) ∙ filter-append _ (letters_taken log) batch
 
--- A batch brings a rank these letters to run, and none for others.
-pub record Brings (here : ℕ) (batch run : List Letter) : Type 0 where
-  pub for_here : for_rank here batch ≡ run
-  pub all_for : AllByRecursion (IsFor here) run
-  pub others : (s d : ℕ) → here ≢ d → of_pair s d batch ≡ []
-
-brings_all : (here : ℕ) (batch : List Letter) → AllByRecursion (IsFor here) batch → Brings here batch batch
-brings_all here batch all = record { for_here = for_all here batch all; all_for = all; others = λ s d apart. none_to_others here s d batch apart all }
+-- A batch brings a rank, one of so many, these data letters for handlers, and no others.
+pub record Brings (ranks here : ℕ) (batch letters : List Letter) : Type 0 where
+  pub taken : AllByRecursion (IsTaken ranks here) letters
+  pub pairs : (s d : ℕ) → of_pair s d batch ≡ of_pair s d letters
+  pub for_here : for_rank here batch ≡ for_rank here letters
 
 -- a letter that isn't a data letter is for no handler
-brings_none : (here : ℕ) (l : Letter) → is_data l ≡ false → Brings here (l ∷ []) []
-brings_none here l none = record { for_here = rw none refl; all_for = tt; others = λ s d apart. rw none refl }
+brings_none : (ranks here : ℕ) (l : Letter) → is_data l ≡ false → Brings ranks here (l ∷ []) []
+brings_none ranks here l none = record { taken = tt; pairs = λ s d. rw none refl; for_here = rw none refl }
 
--- what there is to forward, where nothing that a rank takes is for others
-forward_if : (b : Bool) (xs ys : List Letter) → (b ≡ true → xs ≡ ys) → (if b then xs else []) ≡ (if b then ys else [])
-forward_if true xs ys h = h refl
-forward_if false xs ys h = refl
+-- ---- what there is to forward
 
-pub forward_same : (me : Local) (from : ℕ) (batch : List Letter) → ((s d : ℕ) → me.here ≢ d → of_pair s d batch ≡ []) → (s d : ℕ) →
-    to_forward (record me { log = me.log ++ Took from batch ∷ [] }) s d ≡ to_forward me s d
-unfolding to_forward
-forward_same me from batch none s d =
-    forward_if (is_rank me.layout s && is_rank me.layout d && not (nat_eq me.here s) && not (nat_eq me.here d)) _ _ (λ b.
-    let apart : me.here ≢ d = λ e. absurd (let yes : nat_eq me.here d ≡ true = eq-eqb me.here d e in let no : not (nat_eq me.here d) ≡ true = and_second (is_rank me.layout s && is_rank me.layout d && not (nat_eq me.here s)) (not (nat_eq me.here d)) b in let both : not true ≡ true = ap not (sym yes) ∙ no in cc) in
-    ap (λ xs. drop (length xs) (pair_taken s d (me.log ++ Took from batch ∷ []))) (pair_put-took s d me.log from batch)
-    ∙ ap (drop (length (pair_put s d me.log))) (pair_taken-took s d me.log from batch ∙ ap (λ xs. pair_taken s d me.log ++ xs) (none s d apart) ∙ append-nil (pair_taken s d me.log)))
+-- the letters of a pair, but for those for the rank
+to_others : (here s d : ℕ) (letters : List Letter) → d ≢ here → of_pair s d (elsewhere here letters) ≡ of_pair s d letters
+to_others here s d letters ne = filter_within (is_of_pair s d) (λ l. not (l.to == here)) letters (λ l yes. let away : nat_eq l.to here ≡ false = ne_eqb l.to here (λ e. ne (sym (pair_of s d l yes).1 ∙ e)) in rw away refl)
+
+none_for_here : (here s : ℕ) (letters : List Letter) → of_pair s here (elsewhere here letters) ≡ []
+none_for_here here s [] = refl
+none_for_here here s (l ∷ letters) = by_test (nat_eq l.to here) refl (none_for_here here s letters)
+  where
+    by_test : (b : Bool) → nat_eq l.to here ≡ b → of_pair s here (elsewhere here letters) ≡ [] → of_pair s here (cond (not b) (l ∷ elsewhere here letters) (elsewhere here letters)) ≡ []
+    by_test true e rest = rest
+    by_test false e rest =
+        let none : is_of_pair s here l ≡ false = false_from_ne_true _ (λ yes. false≢true (sym e ∙ eq-eqb l.to here (pair_of s here l yes).1)) in
+        rw none rest
+
+module _ (me : Local) (from : ℕ) (batch letters : List Letter) (brings : Brings me.layout.ranks me.here batch letters) (s d : ℕ) (other : s ≢ me.here) where
+  abbrev after : List Entry
+  after = me.log ++ Took from batch ∷ []
+
+  same_put : pair_put s d after ≡ pair_put s d me.log
+  same_put = pair_put-took s d me.log from batch
+
+  more_taken : pair_taken s d after ≡ pair_taken s d me.log ++ of_pair s d letters
+  more_taken = pair_taken-took s d me.log from batch ∙ ap (λ xs. pair_taken s d me.log ++ xs) (brings.pairs s d)
+
+  -- a pair that the rank may not forward has no letter among them for another rank
+  none_between : may_forward me s d ≡ false → of_pair s d (elsewhere me.here letters) ≡ []
+  none_between apart = elim (cases_eq d me.here) [
+    | inl e ↦ subst (λ h. of_pair s h (elsewhere me.here letters) ≡ []) (sym e) (none_for_here me.here s letters)
+    | inr ne ↦
+        to_others me.here s d letters ne
+        ∙ filter_none (is_of_pair s d) letters (all_weaker _ (λ l. is_of_pair s d l ≡ false) letters
+        (λ l taken. false_from_ne_true _ (λ yes.
+        let pair = pair_of s d l yes in
+        let sender : is_rank me.layout s ≡ true = lt-ltb s me.layout.ranks (subst (λ r. r < me.layout.ranks) pair.0 taken.sender) in
+        let destination : is_rank me.layout d ≡ true = lt-ltb d me.layout.ranks (subst (λ r. r < me.layout.ranks) pair.1 taken.destination) in
+        false≢true (sym apart ∙ forwards_between me s d sender destination (λ e. other (sym e)) (λ e. ne (sym e))))) brings.taken)
+  ]
+
+  -- what it took of a pair comes last of what it has to forward
+  pub forward_more : length (pair_put s d me.log) ≤ length (pair_taken s d me.log) →
+      to_forward (record me { log = after }) s d ≡ to_forward me s d ++ of_pair s d (elsewhere me.here letters)
+  unfolding to_forward
+  forward_more few = by_test (may_forward me s d) refl
+    where
+      by_test : (b : Bool) → may_forward me s d ≡ b →
+          (if b then drop (length (pair_put s d after)) (pair_taken s d after) else [])
+          ≡ (if b then drop (length (pair_put s d me.log)) (pair_taken s d me.log) else []) ++ of_pair s d (elsewhere me.here letters)
+      by_test true may =
+          let n = length (pair_put s d me.log) in
+          let apart : d ≢ me.here = λ e. false≢true (sym (none_for_itself me s d e) ∙ may) in
+          ap (λ xs. drop (length xs) (pair_taken s d after)) same_put ∙ ap (drop n) more_taken ∙ drop-append-le n (pair_taken s d me.log) (of_pair s d letters) few
+          ∙ ap (λ xs. drop n (pair_taken s d me.log) ++ xs) (sym (to_others me.here s d letters apart))
+      by_test false apart = sym (none_between apart)
+
+  pub no_more_put : length (pair_put s d me.log) ≤ length (pair_taken s d me.log) → length (pair_put s d after) ≤ length (pair_taken s d after)
+  no_more_put few = omega (arith, few, ap length same_put, ap length more_taken, length-append (pair_taken s d me.log) (of_pair s d letters))
 
 -- ---- what a modest log took last
 
@@ -123,29 +156,29 @@ read_right me to l control right = by_kind (is_count l) (is_total l) (nat_eq l.t
     by_kind false true to_first false mine first true there kind right = absurd cc
     by_kind false true to_first false mine first false there kind right = absurd cc
 
-module _ (me : Local) (from : ℕ) (batch : List Letter) (direct : me.scheme ≡ Direct) (modest : IsModest (record me { log = me.log ++ Took from batch ∷ [] })) where
+module _ (me : Local) (from : ℕ) (batch : List Letter) (laid_out : IsLayout me.layout) (modest : IsModest (record me { log = me.log ++ Took from batch ∷ [] })) where
   abbrev now : Local
   now = record me { log = me.log ++ Took from batch ∷ [] }
 
-  -- its data letters are for the rank
-  straight : AllByRecursion (λ (l : Letter). IsTrue (is_data l) → l.to ≡ me.here) batch
-  straight =
-      let R : Letter → Type 0 = λ l. IsTrue (is_data l) → l.to ≡ me.here in
-      all_second R (letters_taken me.log) batch (subst (AllByRecursion R) (letters_taken-took me.log from batch) (taken_here now direct modest))
+  -- its data letters are for the rank, or of others
+  batch_taken : AllByRecursion (λ (l : Letter). IsTrue (is_data l) → IsTaken me.layout.ranks me.here l) batch
+  batch_taken =
+      let R : Letter → Type 0 = λ l. IsTrue (is_data l) → IsTaken me.layout.ranks me.here l in
+      all_second R (letters_taken me.log) batch (subst (AllByRecursion R) (letters_taken-took me.log from batch) (are_taken now laid_out modest))
 
-  pub brings : Brings me.here batch (for_handlers batch)
+  pub brings : Brings me.layout.ranks me.here batch (for_handlers batch)
   brings =
       let lawful : IsLawful now (Took from batch) = (all_second (IsLawful now) me.log (Took from batch ∷ []) modest.lawful).0 in
+      let B : List Letter → List Letter → Type 0 = Brings me.layout.ranks me.here in
       elim (batch_kind now from batch (lawful_batch now from batch lawful)) [
         | inl all ↦
-            let each : AllByRecursion (IsFor me.here) batch =
-            both_of (λ l. is_data l ≡ true) (λ l. IsTrue (is_data l) → l.to ≡ me.here) (IsFor me.here) batch (λ l tag to. record { destination = to tag; tag = tag }) all straight in
-            subst (Brings me.here batch) (sym (data_first batch all)) (brings_all me.here batch each)
+            let each : AllByRecursion (IsTaken me.layout.ranks me.here) batch =
+            both_of (λ l. is_data l ≡ true) (λ l. IsTrue (is_data l) → IsTaken me.layout.ranks me.here l) (IsTaken me.layout.ranks me.here) batch (λ l tag is. is tag) all batch_taken in
+            subst (B batch) (sym (data_first batch all)) (record { taken = each; pairs = λ s d. refl; for_here = refl })
         | inr one ↦
             let none : is_data one.letter ≡ false = control_not_data one.letter one.control in
-            let P : List Letter → Type 0 = λ b. Brings me.here b (for_handlers b) in
             let alone : for_handlers (one.letter ∷ []) ≡ [] = rw none refl in
-            subst P (sym one.alone) (subst (Brings me.here (one.letter ∷ [])) (sym alone) (brings_none me.here one.letter none))
+            subst (λ b. B b (for_handlers b)) (sym one.alone) (subst (B (one.letter ∷ [])) (sym alone) (brings_none me.layout.ranks me.here one.letter none))
       ]
 
   -- its control letters are the batch itself, where it begins with one
@@ -188,5 +221,3 @@ ran_is me log run waiting all waits =
 
 pub ran_all : {C : Type 0} (me : Rank C) (log : List Entry) → me.waiting ≡ [] → ran_at me log ≡ arrived me.here log
 ran_all me log none = ran_is me log (arrived me.here log) [] (sym (append-nil _)) (ap (for_rank me.here) none)
-
--- ---- lists with elements left out

@@ -1,11 +1,11 @@
 -- A rank that has sent and run nothing agrees with an empty log, and belongs to new links.
-use Rattle.std.proofs.Common.{◌≡◌, ℕ, zero, suc, ◌<◌, [], replicate, refl, sym, ap, ◌∙◌, subst, lt-ltb, arith}
+use Rattle.std.proofs.Common.{◌≡◌, ℕ, zero, suc, ◌<◌, Bool, true, false, not, ◌&&◌, nat_eq, List, [], drop, replicate, refl, sym, ap, ◌∙◌, subst, lt-ltb, arith, if◌then◌else◌}
 use Rattle.std.proofs.lemmas.List.{get_or-replicate}
 use Rattle.ygm_route.specs.declared.scheme.Scheme.{Scheme}
-use Rattle.ygm_route.specs.declared.scheme.Scheme.TheVariants.{Direct}
 use Rattle.ygm_route.specs.Layout.{Shape}
-use Rattle.world_core.specs.Local.{Local, local_rank}
-use Rattle.world_core.specs.Log.{letters_of}
+use Rattle.msg_codec.specs.declared.letter.Letter.{Letter}
+use Rattle.send_buffers.specs.Buffers.{empty_queue, queued}
+use Rattle.world_core.specs.Local.{Local, is_rank, local_rank, to_forward}
 use Rattle.world_core.specs.Counts.{count_taken}
 use Rattle.world_core.specs.Modest.{AreInTurn, IsModest}
 use Rattle.world_core.specs.Pairs.{of_pair, sent_number}
@@ -18,11 +18,19 @@ use Rattle.list_facts.proofs.Sums.{sum_upto-zero}
 use Rattle.comm_rank.specs.Agrees.{Agrees, Belongs}
 use Rattle.comm_rank.specs.Fold.{Applies}
 use Rattle.comm_rank.specs.Rank.{fresh_rank}
-use Rattle.comm_rank.proofs.Agrees.Direct.{nothing_to_forward}
 
-pub no_letters : (n : ℕ) → letters_of (replicate n []) ≡ []
+pub no_letters : (n : ℕ) → queued (replicate n empty_queue) ≡ []
 no_letters zero = refl
 no_letters (suc n) = no_letters n
+
+-- an empty log has nothing to forward
+none_to_forward : (layout : Shape) (scheme : Scheme) (here s d : ℕ) → to_forward (local_rank layout scheme here []) s d ≡ []
+unfolding to_forward
+none_to_forward layout scheme here s d = by_test (is_rank layout s && is_rank layout d && not (nat_eq here s) && not (nat_eq here d))
+  where
+    by_test : (b : Bool) → (let none : List Letter = [] in if b then drop 0 none else []) ≡ []
+    by_test true = refl
+    by_test false = refl
 
 -- an empty log took no control letters
 in_turn_fresh : (layout : Shape) (scheme : Scheme) (here : ℕ) → AreInTurn (local_rank layout scheme here [])
@@ -35,15 +43,15 @@ in_turn_fresh layout scheme here = record {
   in_turn = λ k from letters h. absurd cc;
 }
 
-pub agrees_fresh : {C : Type 0} (apply : Applies C) (start : C → C) (layout : Shape) (scheme : Scheme) (here most : ℕ) (contents : C) → scheme ≡ Direct → start contents ≡ contents →
+pub agrees_fresh : {C : Type 0} (apply : Applies C) (start : C → C) (layout : Shape) (scheme : Scheme) (here most : ℕ) (contents : C) → start contents ≡ contents →
     Agrees apply start (fresh_rank layout scheme here most contents) []
-agrees_fresh apply start layout scheme here most contents direct fresh =
-    let none : letters_of (replicate layout.ranks []) ≡ [] = no_letters layout.ranks in
+agrees_fresh apply start layout scheme here most contents fresh =
+    let none : queued (replicate layout.ranks empty_queue) ≡ [] = no_letters layout.ranks in
     let me : Local = local_rank layout scheme here [] in
     let modest : IsModest me = record { few = omega (arith, run_number-nil here); lawful = tt; on_path = λ from. tt; control = in_turn_fresh layout scheme here } in
     record {
       nothing_waits = refl;
-      forwards = λ from to other. ap (of_pair from to) none ∙ sym (nothing_to_forward me direct modest from to);
+      forwards = record { held = λ from to other. ap (of_pair from to) none ∙ sym (none_to_forward layout scheme here from to); no_more_put = λ from to other. omega arith };
       sent_count = omega (arith, ap (sent_number here) none, sent_number-nil here);
       run_count = refl;
       contents = sym fresh;
@@ -55,14 +63,14 @@ agrees_fresh apply start layout scheme here most contents direct fresh =
 
 -- ---- at new links
 
-module _ {C : Type 0} (apply : Applies C) (start : C → C) (layout : Shape) (most ring batches : ℕ) (contents : C) (fresh : start contents ≡ contents) (rank : ℕ) (within : rank < layout.ranks) where
-  pub none_new : log_of (fresh_links layout Direct ring batches).world rank ≡ []
+module _ {C : Type 0} (apply : Applies C) (start : C → C) (layout : Shape) (scheme : Scheme) (most ring batches : ℕ) (contents : C) (fresh : start contents ≡ contents) (rank : ℕ) (within : rank < layout.ranks) where
+  pub none_new : log_of (fresh_links layout scheme ring batches).world rank ≡ []
   none_new = get_or-replicate layout.ranks rank [] [] within
 
-  pub belongs_new : Belongs apply start (fresh_rank layout Direct rank most contents) (state_of (fresh_links layout Direct ring batches))
+  pub belongs_new : Belongs apply start (fresh_rank layout scheme rank most contents) (state_of (fresh_links layout scheme ring batches))
   belongs_new = record {
     serves = lt-ltb _ _ within;
     layout = refl;
     scheme = refl;
-    agrees = subst (Agrees apply start (fresh_rank layout Direct rank most contents)) (sym none_new) (agrees_fresh apply start layout Direct rank most contents refl fresh);
+    agrees = subst (Agrees apply start (fresh_rank layout scheme rank most contents)) (sym none_new) (agrees_fresh apply start layout scheme rank most contents fresh);
   }

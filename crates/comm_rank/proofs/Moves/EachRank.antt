@@ -1,12 +1,11 @@
 -- Puts to one destination after another.
-use Rattle.std.proofs.Common.{◌≡◌, ◌≢◌, ℕ, ◌+◌, ◌<◌, ◌≤◌, Bool, true, false, Option, Some, None, List, sym, ◌∙◌, subst, inl, inr, arith}
+use Rattle.std.proofs.Common.{◌≡◌, ◌≢◌, ℕ, ◌+◌, ◌<◌, ◌≤◌, Bool, true, false, Option, Some, None, List, sym, ap, ◌∙◌, subst, inl, inr, arith}
 use Rattle.std.specs.Option.{option_or}
 use Rattle.std.proofs.lemmas.Bool.{cases_eq}
-use Rattle.msg_codec.specs.declared.letter.Letter.{Letter}
+use Rattle.send_buffers.specs.Buffers.{Queue}
 use Rattle.world_core.specs.Post.{SameFulls, PostState}
 use Rattle.comm_rank.specs.Held.{NoneClosed}
-use Rattle.comm_rank.specs.Moves.{PutUntil}
-use Rattle.comm_rank.specs.Store.{OthersUnchanged}
+use Rattle.comm_rank.specs.Moves.{OthersUnchanged, PutUntil}
 use Rattle.comm_rank.specs.Turns.{FirstFull, NoneOrFull}
 
 abbrev pub Below : ℕ → Option ℕ → Type 0
@@ -18,7 +17,7 @@ pub some_full : (was : Option ℕ) (to : ℕ) → option_or was (Some to) ≡ No
 some_full None to is = absurd cc
 some_full (Some rank) to is = absurd cc
 
-module _ (to : ℕ) (a b : List (List Letter)) (old mid new : PostState) (others : OthersUnchanged to a b) (later : (d : ℕ) → to ≤ d → mid.fulls d ≡ old.fulls d) where
+module _ (to : ℕ) (a b : List Queue) (old mid new : PostState) (others : OthersUnchanged to a b) (later : (d : ℕ) → to ≤ d → mid.fulls d ≡ old.fulls d) where
   -- the counts of the other ranks are unchanged
   pub other_fulls : (full : Bool) → PutUntil full to b mid new → (d : ℕ) → d ≢ to → new.fulls d ≡ mid.fulls d
   other_fulls true until d other = until.1.others d other
@@ -28,10 +27,10 @@ module _ (to : ℕ) (a b : List (List Letter)) (old mid new : PostState) (others
   none_or_full_next full until done d lt = elim (cases_eq d to) [
     | inl e ↦ let P : ℕ → Type 0 = λ r. NoneOrFull r b old new in subst P (sym e) (at_last full until)
     | inr other ↦ elim (done d (omega arith)) [
-      | inl none ↦ inl (others.others d other ∙ none)
+      | inl none ↦ inl (ap (λ (queue : Queue). queue.closed) (others.others d other) ∙ none)
       | inr met ↦ inr (record {
         rose = (let e : new.fulls d ≡ mid.fulls d = other_fulls full until d other in omega (arith, met.rose, e));
-        some = λ h. met.some (sym (others.others d other) ∙ h);
+        some = λ h. met.some (ap (λ (queue : Queue). queue.closed) (sym (others.others d other)) ∙ h);
       })
     ]
   ]
@@ -47,7 +46,7 @@ module _ (to : ℕ) (a b : List (List Letter)) (old mid new : PostState) (others
   pub none_next : PutUntil false to b mid new → ((d : ℕ) → d < to → NoneClosed a d) → (d : ℕ) → d < to + 1 → NoneClosed b d
   none_next until none d lt = elim (cases_eq d to) [
     | inl e ↦ subst (NoneClosed b) (sym e) until.0
-    | inr other ↦ others.others d other ∙ none d (omega (arith, lt, other))
+    | inr other ↦ ap (λ (queue : Queue). queue.closed) (others.others d other) ∙ none d (omega (arith, lt, other))
   ]
 
   pub later_next : (full : Bool) → PutUntil full to b mid new → (d : ℕ) → to + 1 ≤ d → new.fulls d ≡ old.fulls d
@@ -62,7 +61,7 @@ module _ (to : ℕ) (a b : List (List Letter)) (old mid new : PostState) (others
         record {
           within = h.within;
           rose = omega (arith, h.rose, e);
-          some = λ none. h.some (sym (others.others first other) ∙ none);
+          some = λ none. h.some (ap (λ (queue : Queue). queue.closed) (sym (others.others first other)) ∙ none);
           lower = λ lower below. other_fulls full until lower (λ k. absurd (omega (arith, k))) ∙ h.lower lower below;
         }
 

@@ -4,13 +4,13 @@ use Rattle.std.specs.Bool.{IsTrue}
 use Rattle.std.proofs.lemmas.Bool.{false_from_ne_true}
 use Rattle.msg_codec.specs.declared.letter.Letter.{Letter}
 use Rattle.world_core.specs.declared.entry.Entry.{Entry}
-use Rattle.world_core.specs.Log.{letters_of}
+use Rattle.send_buffers.specs.Buffers.{Queue, queued}
 use Rattle.world_core.specs.Pairs.{is_data, is_of_pair, of_pair, pair_put}
 use Rattle.list_facts.proofs.Tests.{and_second}
 use Rattle.comm_rank.specs.Held.{Gains}
 use Rattle.comm_rank.specs.Rank.{HasSent, Rank, held_letters, sent_to}
 
-pub has_sent : {C : Type 0} (me : Rank C) (held : List (List Letter)) (count : ℕ) (l : Letter) → Gains (held_letters me) (letters_of held) (l ∷ []) → count ≡ me.sent_count + 1 →
+pub has_sent : {C : Type 0} (me : Rank C) (held : List Queue) (count : ℕ) (l : Letter) → Gains (held_letters me) (queued held) (l ∷ []) → count ≡ me.sent_count + 1 →
     HasSent me (record me { sent_count = count; held = held }) l
 has_sent {C} me held count l gains counted = record {
   held = gains;

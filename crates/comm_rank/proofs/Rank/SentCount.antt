@@ -3,7 +3,7 @@ use Rattle.std.proofs.Common.{◌≡◌, ℕ, zero, suc, ◌+◌, ◌<◌, Bool,
 use Rattle.std.specs.List.{AllByRecursion}
 use Rattle.std.proofs.lemmas.Bool.{cases_eq}
 use Rattle.list_facts.specs.Sums.{sum_upto}
-use Rattle.list_facts.proofs.Elements.{all_append, all_weaker}
+use Rattle.list_facts.proofs.Elements.{all_weaker}
 use Rattle.list_facts.proofs.Sums.{sum_upto-add, sum_upto-same, sum_upto-zero}
 use Rattle.msg_codec.specs.declared.letter.Letter.{Letter}
 use Rattle.world_core.specs.declared.entry.Entry.{Entry}
@@ -16,10 +16,12 @@ use Rattle.world_core.proofs.Pairs.Numbers.{sent_number-is}
 use Rattle.comm_rank.specs.Agrees.{Agrees}
 use Rattle.comm_rank.specs.Fold.{Applies}
 use Rattle.comm_rank.specs.Rank.{Rank, held_letters, local_of, sent_to}
-use Rattle.comm_rank.specs.Store.{AreHeld, IsHeldFor}
+use Rattle.comm_rank.proofs.Store.Queued.{all_of_each}
+use Rattle.send_buffers.specs.Buffers.{AreRouted, Buffered, IsRouted, queue_at, queued}
+use Rattle.send_buffers.proofs.Queued.Queues.{all_letters}
 
 -- a letter to one of the ranks
-abbrev GoesBelow : ℕ → Letter → Type 0
+abbrev pub GoesBelow : ℕ → Letter → Type 0
 GoesBelow ranks l = l.to < ranks
 
 abbrev one_at : ℕ → ℕ → ℕ
@@ -65,17 +67,12 @@ by_destination here ranks (l ∷ ls) all = by_test (is_data l && (l.from == here
     by_test false e rest =
         rest ∙ sym (sum_upto-same (λ to. length (of_pair here to (l ∷ ls))) (λ to. length (of_pair here to ls)) ranks (λ to lt. none_more (is_data l && (l.from == here)) (l.to == to) l (of_pair here to ls) e))
 
--- what holds of each list holds of all their elements
-of_each : (P : Letter → Type 0) (lists : List (List Letter)) → ((k : ℕ) → k < length lists → AllByRecursion P (get_or lists k [])) → AllByRecursion P (letters_of lists)
-of_each P [] h = tt
-of_each P (ls ∷ lists) h = all_append P ls (letters_of lists) (h zero (omega arith)) (of_each P lists (λ k lt. h (suc k) (omega (arith, lt))))
+pub held_below : (held : Buffered) → AreRouted held → AllByRecursion (GoesBelow held.layout.ranks) (queued held.queues)
+held_below held routed = all_of_each (GoesBelow held.layout.ranks) held.queues (λ next lt.
+    let within : next < held.layout.ranks = omega (arith, lt, routed.all) in
+    all_weaker (IsRouted held next) (GoesBelow held.layout.ranks) _ (λ l is. is.destination) (all_letters held next (queue_at held.queues next) (routed.each next within)))
 
-held_below : (ranks : ℕ) (held : List (List Letter)) → AreHeld ranks held → AllByRecursion (GoesBelow ranks) (letters_of held)
-held_below ranks held are = of_each (GoesBelow ranks) held (λ k lt.
-    let within : k < ranks = omega (arith, lt, are.all) in
-    all_weaker (IsHeldFor ranks k) (GoesBelow ranks) _ (λ l is. omega (arith, is.destination, within)) (are.each k within))
-
-pub sum_of_sent : {C : Type 0} (apply : Applies C) (start : C → C) (me : Rank C) (log : List Entry) → AreHeld me.layout.ranks me.held → Agrees apply start me log → IsHonest (local_of me log) →
+pub sum_of_sent : {C : Type 0} (apply : Applies C) (start : C → C) (me : Rank C) (log : List Entry) → AllByRecursion (GoesBelow me.layout.ranks) (held_letters me) → Agrees apply start me log → IsHonest (local_of me log) →
     me.sent_count ≡ sum_upto (λ to. length (sent_to me log to)) me.layout.ranks
 sum_of_sent apply start me log held agrees honest =
     let n = me.layout.ranks in
@@ -87,7 +84,7 @@ sum_of_sent apply start me log held agrees honest =
       sent_number-is me.here (letters_put log),
       sent_number-is me.here (held_letters me),
       by_destination me.here n (letters_put log) put,
-      by_destination me.here n (held_letters me) (held_below n me.held held),
+      by_destination me.here n (held_letters me) held,
       sum_upto-add (λ to. length (pair_put me.here to log)) (λ to. length (of_pair me.here to (held_letters me))) n,
       sum_upto-same (λ to. length (sent_to me log to)) (λ to. length (pair_put me.here to log) + length (of_pair me.here to (held_letters me))) n
           (λ to lt. length-append (pair_put me.here to log) (of_pair me.here to (held_letters me))),

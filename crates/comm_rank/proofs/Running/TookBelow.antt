@@ -18,7 +18,8 @@ use Rattle.comm_rank.specs.Rank.{Rank, IsSameRank, handed, ran_at, sent_to}
 use Rattle.comm_rank.specs.declared.fault.CommFault.{CommFault}
 use Rattle.comm_rank.specs.Running.{CutFrom, NotLookedAt, TookBelow, TookFrom, WasCutFrom}
 use Rattle.comm_rank.specs.Turns.{Advanced, CutOff, FullAtFirst, LookedAt, WasCut, other_end}
-use Rattle.comm_rank.proofs.Running.RunAll.{begun_same, folded_on, full_later, handed_on}
+use Rattle.comm_rank.proofs.Running.Passed.{folded_on, handed_on}
+use Rattle.comm_rank.proofs.Running.Stuck.{begun_same, full_later}
 use Rattle.comm_rank.proofs.Turns.Faults.{cause_on, if_full}
 
 -- ---- in the order of ranks
@@ -98,6 +99,7 @@ module _ {C : Type 0} (apply : Applies C) (old mid new : Rank C) (before between
             nothing_waits = second.all.nothing_waits;
             controls = controls_both later second.all.controls;
             took_count = omega (arith, first.all.took_count, second.all.took_count, length-append first.all.taken later);
+            same_open = λ none next. second.all.same_open (omega (arith, none)) next ∙ first.all.same_open (omega (arith, none)) next;
           };
           below = below_more from first.all.taken later first.below second.alone;
         }
@@ -162,6 +164,7 @@ took_nothing apply me log bound none = record {
     nothing_waits = none;
     controls = sym (append-nil me.controls);
     took_count = refl;
+    same_open = λ none next. refl;
   };
   below = tt;
 }

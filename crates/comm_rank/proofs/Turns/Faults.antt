@@ -6,7 +6,7 @@ use Rattle.comm_rank.specs.Fault.{IfCountFull, IsFullAt}
 use Rattle.comm_rank.specs.Fold.{Applies}
 use Rattle.comm_rank.specs.Rank.{Rank}
 use Rattle.comm_rank.specs.Turns.{IsCause}
-use Rattle.comm_rank.specs.Fault.{UnlessStopped}
+use Rattle.comm_rank.specs.Fault.{IfStopped, UnlessStopped}
 
 pub if_full : {P Q : ℕ → Type 0} (fault : CommFault) → ((at : ℕ) → P at → Q at) → IfCountFull fault P → IfCountFull fault Q
 if_full Stopped more h = tt
@@ -30,3 +30,13 @@ pub unless_stopped : {P : Type 0} (fault : CommFault) → P → UnlessStopped fa
 unless_stopped Stopped p = tt
 unless_stopped (CountFull at) p = p
 unless_stopped NoMemory p = p
+
+pub if_stopped : {P Q : Type 0} (fault : CommFault) → (P → Q) → IfStopped fault P → IfStopped fault Q
+if_stopped Stopped more p = more p
+if_stopped (CountFull at) more p = tt
+if_stopped NoMemory more p = tt
+
+pub unless_stopped_then : {P Q : Type 0} (fault : CommFault) → (P → Q) → UnlessStopped fault P → UnlessStopped fault Q
+unless_stopped_then Stopped more p = tt
+unless_stopped_then (CountFull at) more p = more p
+unless_stopped_then NoMemory more p = more p

@@ -4,6 +4,7 @@ use Rattle.std.specs.List.{AllByRecursion}
 use Rattle.std.specs.Result.{IfOk}
 use Rattle.std.proofs.lemmas.Bool.{cases_eq, false≢true}
 use Rattle.msg_codec.specs.declared.letter.Letter.{Letter}
+use Rattle.send_buffers.specs.Buffers.{Queue}
 use Rattle.world_core.specs.declared.entry.Entry.{Entry}
 use Rattle.world_core.specs.Log.{IsPut, batches_taken, letters_taken}
 use Rattle.world_core.specs.Pairs.{for_rank, of_pair}
@@ -73,7 +74,7 @@ module _ {C : Type 0} (apply : Applies C) (old mid new : Rank C) (before between
 
 -- the rank put between `b` and `c`; between `a` and `b` no link was found full
 module _ (a b c : PostState) (fulls : SameFulls a b) where
-  pub met_then : (to : ℕ) (held : List (List Letter)) → NoneOrFull to held b c → NoneOrFull to held a c
+  pub met_then : (to : ℕ) (held : List Queue) → NoneOrFull to held b c → NoneOrFull to held a c
   met_then to held met = elim met [
     | inl none ↦ inl none
     | inr full ↦ inr (record {
@@ -82,7 +83,7 @@ module _ (a b c : PostState) (fulls : SameFulls a b) where
     })
   ]
 
-  pub full_then : (ranks before : ℕ) → before ≡ ranks → (held : List (List Letter)) (full : Option ℕ) → FirstFull before held b c full → FirstFull ranks held a c full
+  pub full_then : (ranks before : ℕ) → before ≡ ranks → (held : List Queue) (full : Option ℕ) → FirstFull before held b c full → FirstFull ranks held a c full
   full_then ranks before e held None none = λ rank. none rank ∙ fulls rank
   full_then ranks before e held (Some to) found = record {
     within = omega (arith, found.within, e);

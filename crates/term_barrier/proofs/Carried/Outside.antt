@@ -6,7 +6,7 @@ use Rattle.ygm_route.specs.declared.scheme.Scheme.{Scheme}
 use Rattle.ygm_route.specs.Layout.{Shape}
 use Rattle.world_core.specs.declared.entry.Entry.{Entry}
 use Rattle.world_core.specs.ControlRules.{is_idle}
-use Rattle.world_core.specs.Log.{letters_of}
+use Rattle.send_buffers.specs.Buffers.{empty_queue, queued}
 use Rattle.world_core.specs.Pairs.{of_pair}
 use Rattle.world_core.specs.Post.{PostState}
 use Rattle.comm_rank.specs.Agrees.{Agrees, Belongs, MayTurn}
@@ -23,7 +23,7 @@ use Rattle.term_barrier.proofs.Barriers.Agrees.{agrees_fresh}
 use Rattle.term_barrier.proofs.Waited.Outcomes.{stands_inside}
 
 -- a new rank holds no letter
-none_held : (n here : ℕ) (to : ℕ) → of_pair here to (letters_of (replicate n [])) ≡ []
+none_held : (n here : ℕ) (to : ℕ) → of_pair here to (queued (replicate n empty_queue)) ≡ []
 none_held zero here to = refl
 none_held (suc n) here to = none_held n here to
 

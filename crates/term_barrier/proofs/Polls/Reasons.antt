@@ -11,6 +11,7 @@ use Rattle.world_core.specs.Post.{PostState, SameFulls}
 use Rattle.world_core.specs.Rising.{Rose}
 use Rattle.comm_rank.specs.declared.turn.Turn.{Turn}
 use Rattle.comm_rank.specs.Fold.{Applies}
+use Rattle.comm_rank.specs.Held.{NoneOpen}
 use Rattle.comm_rank.specs.Rank.{IsIdle, IsSameRank, Rank, held_letters, local_of}
 use Rattle.comm_rank.specs.Turns.{FirstFull, HasEnded, IsFirstFull, PutsKeep}
 use Rattle.comm_rank.proofs.Agrees.AfterPuts.{same_batches_taken}
@@ -37,7 +38,7 @@ module _ (barrier : BarrierState) (me : Local) (modest : IsModest me) (agrees : 
 -- ---- a turn that took no batch, and puts after it
 
 module _ {C : Type 0} (apply : Applies C) (start : C → C) (one mid : Rank C) (before looked after : PostState) (turn : Turn)
-    (same : IsSameRank one mid) (ended : HasEnded apply start one mid before looked turn) (keeps : PutsKeep mid.here looked after) where
+    (same : IsSameRank one mid) (ended : HasEnded apply start one mid before looked turn) (gathered : (to : ℕ) → to < one.layout.ranks → NoneOpen one.held to) (keeps : PutsKeep mid.here looked after) where
   -- it found nothing at any link
   missed : turn.took ≡ 0 → (from : ℕ) → from < one.layout.ranks → Rose (before.misses from) (after.misses from)
   missed took from within = elim (ended.takes_from_each from within) [
@@ -85,8 +86,8 @@ module _ {C : Type 0} (apply : Applies C) (start : C → C) (one mid : Rank C) (
         let none : SameFulls looked after = subst (λ f. FoundFull barrier.layout.ranks f looked after) later due.found in
         λ rank. none rank ∙ no_full_link first rank
 
-    idle : turn.full ≡ None → IsIdle me
-    idle none = subst (λ (r : Rank C). IsIdle r) (sym mid_is) (ended.none_held none, ended.turned.nothing_waits)
+    idle : turn.took ≡ 0 → turn.full ≡ None → IsIdle me
+    idle took none = subst (λ (r : Rank C). IsIdle r) (sym mid_is) (ended.none_held none took gathered, ended.turned.nothing_waits)
 
     why_other : turn.took ≡ 0 → turn.full ≡ None → full ≡ None → (w : Waiting) → IsOtherReason barrier w → IsReason barrier here before after turn w
     why_other took first later (Worked n) other = absurd other
@@ -122,7 +123,7 @@ module _ {C : Type 0} (apply : Applies C) (start : C → C) (one mid : Rank C) (
         )
     why_other took first later (Spent round) other =
         let spent : barrier.counted ≡ barrier.rounds = elim (cases_lt barrier.counted barrier.rounds) [
-          | inl fewer ↦ elim (due.count (idle first).0 fewer) [
+          | inl fewer ↦ elim (due.count (idle took first).0 fewer) [
             | inl more ↦ absurd (omega (arith, more, other.1))
             | inr some ↦ absurd (none-some 0 (sym later ∙ some))
           ]

@@ -73,7 +73,7 @@ module _ {C : Type 0} (apply : Applies C) (start : C → C) (barrier : BarrierSt
       ∙ sym (run_number-is me.here (letters_taken log))
 
   none_to_forward : held_letters me ≡ [] → (from to : ℕ) → from ≢ me.here → to_forward (local_of me log) from to ≡ []
-  none_to_forward none from to other = sym (stands.belongs.agrees.forwards from to other) ∙ ap (of_pair from to) none
+  none_to_forward none from to other = sym (stands.belongs.agrees.forwards.held from to other) ∙ ap (of_pair from to) none
 
   pub count_due : IsIdle me → barrier.counted ≤ barrier.known → ControlFits (Count me.here barrier.counted me.sent_count me.run_count) →
       first_broken (local_at post me.here) (Puts 0 (letter_of_control (Count me.here barrier.counted me.sent_count me.run_count) ∷ [])) ≡ None

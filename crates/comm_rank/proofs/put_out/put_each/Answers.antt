@@ -9,21 +9,20 @@ use Rattle.comm_rank.proofs.put_out.put_each.Goals.{then-placed, else-placed}
 
 pub returns-in_err-placed-clause-failed : goal.returns-in_err-placed-clause-failed
 returns-in_err-placed-clause-failed g c =
-    let before = c.args.held.now.lists in
+    let before = c.args.held.now in
     let old = g.P.Post.state c.args.post.now in
     let mid = g.P.Post.state c.loop-to.post in
     let new = g.P.Post.state c.put_to.new.post in
     let i = c.loop-to.invariant in
-    let there : IfErr c.from_residual.result (PutsFailed c.args.here c.loop-to.held.lists c.put_to.new.held.lists mid new) = search rules in
+    let there : IfErr c.from_residual.result (PutsFailed c.loop-to.held c.put_to.new.held mid new) = search rules in
     IfErr-weaker c.from_residual.result _ _
-    (λ fault f. record { placed = i.placed ++ f.placed; moved = moved_then c.args.here before c.loop-to.held.lists c.put_to.new.held.lists old mid new i.placed f.placed i.moved f.moved; no_memory = f.no_memory }) there
+    (λ fault f. record { placed = i.placed ++ f.placed; moved = moved_then before c.loop-to.held c.put_to.new.held old mid new i.placed f.placed i.moved f.moved; no_memory = f.no_memory }) there
 
 pub loop-to-preserved : goal.loop-to-preserved
 loop-to-preserved g c =
-    let here = c.args.here in
     let to = c.loop-to.to in
-    let a = c.loop-to.held.lists in
-    let b = c.put_to.new.held.lists in
+    let a = c.loop-to.held.queues in
+    let b = c.put_to.new.held.queues in
     let old = g.P.Post.state c.args.post.now in
     let mid = g.P.Post.state c.loop-to.post in
     let new = g.P.Post.state c.put_to.new.post in
@@ -39,7 +38,7 @@ loop-to-preserved g c =
     ] in
     record {
       placed = i.placed ++ p.placed;
-      moved = moved_then here c.args.held.now.lists a b old mid new i.placed p.placed i.moved p.moved;
+      moved = moved_then c.args.held.now c.loop-to.held c.put_to.new.held old mid new i.placed p.placed i.moved p.moved;
       count = omega (arith, c.saturating_add-put.ensures, i.count, p.count, length-append i.placed p.placed);
       done = none_or_full_next to a b old mid new others i.later full until i.done;
       later = later_next to a b old mid new others i.later full until;

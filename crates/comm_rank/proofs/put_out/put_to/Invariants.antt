@@ -1,19 +1,17 @@
 use Rattle.std.proofs.Common.{◌≡◌, ◌+◌, List, length}
+use Rattle.send_buffers.specs.Buffers.{queue_at}
 use Rattle.world_core.specs.Post.{SameFulls}
 use Rattle.world_core.specs.declared.entry.Entry.{Entry}
-use Rattle.comm_rank.specs.Held.{held_for}
-use Rattle.comm_rank.specs.Moves.{Moved}
-use Rattle.comm_rank.specs.Store.{AreApart, OthersUnchanged}
+use Rattle.comm_rank.specs.Moves.{Moved, OthersUnchanged}
 use Rattle.comm_rank.proofs.put_out.put_to.Given as goal
 
--- the first letters for the rank moved into the log
+-- the oldest batches for the next hop moved into the log
 abbrev pub invariant-loop-k : goal.invariant-loop-k
 invariant-loop-k g l = record {
   placed : List Entry;
-  moved : Moved l.here l.fn.held.lists l.held.lists (g.P.Post.state l.fn.post) (g.P.Post.state l.post) placed;
+  moved : Moved l.fn.held l.held (g.P.Post.state l.fn.post) (g.P.Post.state l.post) placed;
   count : length placed ≡ l.k;
-  remaining : length (held_for l.held.lists l.to) + l.k ≡ length (held_for l.fn.held.lists l.to);
+  remaining : length (queue_at l.held.queues l.to).closed + l.k ≡ length (queue_at l.fn.held.queues l.to).closed;
   fulls : SameFulls (g.P.Post.state l.fn.post) (g.P.Post.state l.post);
-  others : OthersUnchanged l.to l.fn.held.lists l.held.lists;
-  apart : AreApart l.held.lists l.to;
+  others : OthersUnchanged l.to l.fn.held.queues l.held.queues;
 }

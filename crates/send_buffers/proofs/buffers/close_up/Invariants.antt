@@ -6,6 +6,5 @@ use Rattle.send_buffers.proofs.buffers.close_up.Given as goal
 abbrev pub invariant-loop-at : goal.invariant-loop-at
 invariant-loop-at l = record {
   first_closed : held_in l.queues.items ≡ map closed_up (take l.at (held_in l.fn.queues.items)) ++ drop l.at (held_in l.fn.queues.items);
-  room : (next : ℕ) → l.at ≤ next → next < length l.queues.items → 1 ≤ get_or (room_in l.queues.items) next 0;
   all : length l.queues.items ≡ length l.fn.queues.items;
 }

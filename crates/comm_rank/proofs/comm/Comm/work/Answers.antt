@@ -1,6 +1,7 @@
-use Rattle.std.proofs.Common.{ℕ, IfErr, refl, sym, ap, ◌∙◌, subst, arith, rules}
+use Rattle.std.proofs.Common.{◌≡◌, ℕ, IfErr, refl, sym, ap, ◌∙◌, subst, arith, rules}
 use Rattle.std.proofs.lemmas.Result.{IfErr-weaker}
 use Rattle.ygm_route.specs.Layout.{Shape}
+use Rattle.send_buffers.specs.Buffers.{queue_at}
 use Rattle.comm_rank.specs.Agrees.{MayTurn}
 use Rattle.comm_rank.specs.Moves.{PutAllFailed, PutOut}
 use Rattle.comm_rank.proofs.Running.Keeps.{puts_then}
@@ -59,7 +60,9 @@ returns-clause-ended g c =
       takes_from_each = λ from within. looked_then old.here mid.here a b d same.here puts.misses put.placed put.out.log put.out.puts from (has.takes_from_each from within);
       puts_to_each = λ to within. met_then a b d takes.fulls to new.held (put.none_or_full to (omega (arith, within, ranks)));
       full = full_then a b d takes.fulls old.layout.ranks mid.layout.ranks ranks new.held _ put.first_full;
-      none_held = put.none_held;
+      none_held = λ full none gathered.
+          let still : (next : ℕ) → (queue_at new.held next).open ≡ (queue_at old.held next).open = λ next. put.out.same_open next ∙ has.taken.same_open none next in
+          put.none_held full (λ next within. still next ∙ gathered next (omega (arith, within, ranks)));
       stops = λ rank. puts.stops rank ∙ takes.work.stops rank;
       halts = puts.halts ∙ takes.work.halts;
     }

@@ -29,7 +29,7 @@ returns-then-self-left-clause-stands g c =
     (stands_outside g.H.Handler.apply g.H.Handler.start barrier me post c.requires.stands c.holds.ensures.in_range more))
 
 pub returns-then-self-left-clause-answers : goal.returns-then-self-left-clause-answers
-returns-then-self-left-clause-answers g c = λ one before same ended.
+returns-then-self-left-clause-answers g c = λ one before same gathered ended.
     let barrier = c.args.self.now in
     let me = c.args.comm.now in
     let post = g.P.Post.state c.args.post.now in
@@ -73,7 +73,7 @@ returns-in_err-full-clause-barrier g c =
     (subst (IsSameBarrier barrier) (sym c.hear_all.ensures.heard) (same_handed barrier c.args.comm.now.controls)) c.put_controls-put.ensures.controls
 
 pub returns-clause-answers : goal.returns-clause-answers
-returns-clause-answers g c = λ one before same ended.
+returns-clause-answers g c = λ one before same gathered ended.
     let barrier = c.args.self.now in
     let me = c.args.comm.now in
     let told : BarrierState = c.hear_all.new.self in
@@ -94,7 +94,7 @@ returns-clause-answers g c = λ one before same ended.
     ap (λ (b : BarrierState). b.inside) c.hear_all.ensures.heard
     ∙ inside_still g.H.Handler.apply g.H.Handler.start barrier me post c.requires.stands c.holds.ensures.in_range ∙ c.requires.inside in (
       record { same_left = ap (λ (b : BarrierState). b.left) put.barrier ∙ heard_left; inside = ap (λ (b : BarrierState). b.inside) put.barrier ∙ inside },
-      reason g.H.Handler.apply g.H.Handler.start one me before post after c.args.turn same ended
+      reason g.H.Handler.apply g.H.Handler.start one me before post after c.args.turn same ended gathered
           (subst (λ h. PutsKeep h post after) here put.keeps) new rank c.in_ok-full.full c.why.result c.holds-3.ensures.in_range all_handed
           c.hear_all.ensures.handed_over c.put_controls-put.ensures.stands c.in_ok-full.ensures.due
           c.why.ensures.worked c.why.ensures.link c.why.ensures.other,

@@ -1,43 +1,55 @@
-use Rattle.std.proofs.Common.{◌≡◌, false, ap, ◌∙◌}
+use Rattle.std.proofs.Common.{◌≡◌, false, List, sym, ap, ◌∙◌, subst}
 use Rattle.std.proofs.lemmas.Result.{IfErr-weaker, IfOk-weaker}
-use Rattle.comm_rank.specs.Rank.{Rank}
-use Rattle.term_barrier.proofs.Polls.Ended.{keeps_failed, keeps_poll, poll_ended, put_failed, same_going, stands_turned, with_due}
+use Rattle.comm_rank.specs.Rank.{HasFlushed, Rank}
+use Rattle.comm_rank.specs.Turns.{KeepsPost}
+use Rattle.comm_rank.proofs.Turns.Faults.{if_stopped, unless_stopped_then}
+use Rattle.term_barrier.specs.Polls.{PollEnded, PollFailed, Stands}
+use Rattle.term_barrier.proofs.Polls.Flushed.{ended_before, failed_before, keeps_before, stands_flushed}
 use Rattle.term_barrier.proofs.barrier.Barrier.poll.Goals as goal
 
-pub after_turn-polled-requires-clause-stands : goal.after_turn-polled-requires-clause-stands
-after_turn-polled-requires-clause-stands g c =
-    stands_turned g.H.Handler.apply g.H.Handler.start c.args.self.now c.args.comm.now c.turn.new.self (g.P.Post.state c.args.post.now) (g.P.Post.state c.turn.new.post)
-    c.in_ok-turn.turn (same_going c.args.comm.now c.turn.new.self c.in_ok-turn.ensures.rank) c.in_ok-turn.ensures.ended c.requires.stands
+pub poll_flushed-requires-clause-stands : goal.poll_flushed-requires-clause-stands
+poll_flushed-requires-clause-stands g c =
+    let f = c.flush.ensures.closed in
+    subst (λ (r : Rank g.row.H.Denot). Stands g.H.Handler.apply g.H.Handler.start c.args.self.now r (g.P.Post.state c.args.post.now)) (sym f.rank)
+    (stands_flushed g.H.Handler.apply g.H.Handler.start c.args.comm.now c.flush.new.self.held f.same_letters c.args.self.now (g.P.Post.state c.args.post.now) c.requires.stands)
 
-pub returns-then-is_err-clause-failed : goal.returns-then-is_err-clause-failed
-returns-then-is_err-clause-failed g c =
-    let going : c.after_turn-polled.new.comm.stopped ≡ false =
-    ap (λ (r : Rank g.row.H.Denot). r.stopped) c.after_turn-polled.ensures.after.handed_over ∙ ap (λ (r : Rank g.row.H.Denot). r.stopped) c.in_ok-turn.ensures.rank in
-    IfErr-weaker c.after_turn-polled.result _ _
-    (λ fault what. put_failed g.H.Handler.apply g.H.Handler.start c.args.self.now c.args.comm.now c.turn.new.self c.after_turn-polled.new.comm
-    (g.P.Post.state c.args.post.now) (g.P.Post.state c.turn.new.post) (g.P.Post.state c.after_turn-polled.new.post) (g.P.Post.state c.halt.new.post) c.in_ok-turn.turn
-    (same_going c.args.comm.now c.turn.new.self c.in_ok-turn.ensures.rank) c.in_ok-turn.ensures.ended c.after_turn-polled.ensures.after
-    c.halt.ensures.raised c.halt.ensures.keeps c.after_turn-polled.new.self fault what.0 what.1 c.after_turn-polled.ensures.stands going c.halt.new.self c.halt.ensures.stopped)
-    c.after_turn-polled.ensures.no_memory
+pub poll_flushed-requires-clause-flushed : goal.poll_flushed-requires-clause-flushed
+poll_flushed-requires-clause-flushed g c = λ to within. c.flush.ensures.closed.none_open to
 
-pub returns-then-is_err-clause-post : goal.returns-then-is_err-clause-post
-returns-then-is_err-clause-post g c =
-    keeps_failed g.H.Handler.apply g.H.Handler.start c.args.self.now c.args.comm.now c.turn.new.self c.after_turn-polled.new.comm (g.P.Post.state c.args.post.now) (g.P.Post.state c.turn.new.post)
-    (g.P.Post.state c.after_turn-polled.new.post) (g.P.Post.state c.halt.new.post) c.in_ok-turn.turn (same_going c.args.comm.now c.turn.new.self c.in_ok-turn.ensures.rank)
-    c.in_ok-turn.ensures.ended c.after_turn-polled.ensures.after c.halt.ensures.raised c.halt.ensures.keeps c.turn.ensures.post
-
-pub returns-else-is_err-clause-ended : goal.returns-else-is_err-clause-ended
-returns-else-is_err-clause-ended g c =
-    let same = same_going c.args.comm.now c.turn.new.self c.in_ok-turn.ensures.rank in
+pub returns-clause-ended : goal.returns-clause-ended
+returns-clause-ended g c =
+    let f = c.flush.ensures.closed in
+    let old = c.args.comm.now in
     let before = g.P.Post.state c.args.post.now in
-    IfOk-weaker c.after_turn-polled.result _ _
-    (λ answer both. poll_ended g.H.Handler.apply g.H.Handler.start c.args.self.now c.args.comm.now c.turn.new.self before (g.P.Post.state c.turn.new.post)
-    c.in_ok-turn.turn same c.in_ok-turn.ensures.ended c.after_turn-polled.new.comm (g.P.Post.state c.after_turn-polled.new.post) c.after_turn-polled.ensures.after
-    c.after_turn-polled.new.self answer c.turn.ensures.post c.after_turn-polled.ensures.stands both.1 both.0)
-    (with_due c.after_turn-polled.result _ _ (c.after_turn-polled.ensures.answers c.args.comm.now before same c.in_ok-turn.ensures.ended) c.after_turn-polled.ensures.due)
+    let after = g.P.Post.state c.poll_flushed.new.post in
+    let now = c.poll_flushed.new.self in
+    let me = c.poll_flushed.new.comm in
+    IfOk-weaker c.poll_flushed.result _ _
+    (λ answer e. ended_before g.H.Handler.apply g.H.Handler.start old c.flush.new.self.held f.same_letters c.args.self.now now me before after answer
+    (subst (λ (r : Rank g.row.H.Denot). PollEnded g.H.Handler.apply g.H.Handler.start c.args.self.now now r me before after answer) f.rank e)) c.poll_flushed.ensures.ended
 
-pub returns-else-is_err-clause-post : goal.returns-else-is_err-clause-post
-returns-else-is_err-clause-post g c =
-    keeps_poll g.H.Handler.apply g.H.Handler.start c.args.self.now c.args.comm.now c.turn.new.self (g.P.Post.state c.args.post.now) (g.P.Post.state c.turn.new.post)
-    c.in_ok-turn.turn (same_going c.args.comm.now c.turn.new.self c.in_ok-turn.ensures.rank) c.in_ok-turn.ensures.ended c.after_turn-polled.new.comm
-    (g.P.Post.state c.after_turn-polled.new.post) c.after_turn-polled.ensures.after c.turn.ensures.post
+pub returns-clause-halted : goal.returns-clause-halted
+returns-clause-halted g c =
+    let f = c.flush.ensures.closed in
+    IfErr-weaker c.poll_flushed.result _ _
+    (λ fault h. if_stopped fault (λ both. record { rank = c.flush.new.self; flushed = f; halted = both.0; barrier = both.1 }) h) c.poll_flushed.ensures.halted
+
+pub returns-clause-failed : goal.returns-clause-failed
+returns-clause-failed g c =
+    let f = c.flush.ensures.closed in
+    let old = c.args.comm.now in
+    let before = g.P.Post.state c.args.post.now in
+    let after = g.P.Post.state c.poll_flushed.new.post in
+    let now = c.poll_flushed.new.self in
+    let me = c.poll_flushed.new.comm in
+    IfErr-weaker c.poll_flushed.result _ _
+    (λ fault h. unless_stopped_then fault (λ x. failed_before g.H.Handler.apply g.H.Handler.start old c.flush.new.self.held f.same_letters c.args.self.now now me before after fault
+    (subst (λ (r : Rank g.row.H.Denot). PollFailed g.H.Handler.apply g.H.Handler.start c.args.self.now now r me before after fault) f.rank x)) h) c.poll_flushed.ensures.failed
+
+pub returns-clause-post : goal.returns-clause-post
+returns-clause-post g c =
+    let f = c.flush.ensures.closed in
+    let before = g.P.Post.state c.args.post.now in
+    let after = g.P.Post.state c.poll_flushed.new.post in
+    keeps_before g.H.Handler.apply g.H.Handler.start c.args.comm.now c.flush.new.self.held f.same_letters before after
+    (subst (λ (r : Rank g.row.H.Denot). KeepsPost r before after) f.rank c.poll_flushed.ensures.post)
