@@ -10,6 +10,7 @@ use Rattle.ygm_run.specs.declared.status.Status.TheVariants.{Done, Usage, OpenFa
 use Rattle.ygm_run.specs.declared.words.UsageKind.{UsageKind}
 use Rattle.ygm_run.specs.Inputs.{AllRead, IsFullAtRank, IsLowestFault}
 use Rattle.ygm_run.specs.Verdict.{Verdict, Bad, Text}
+use Rattle.ygm_run.specs.Words.{Asked}
 
 -- ---- the order of refusals
 
@@ -28,7 +29,7 @@ abbrev pub Ends : List Stage → Status → Type 0
 Ends stages status = (status ≡ NoMemory) ⊎ EndsIn stages status
 
 -- The words are refused, and no file was opened; or they are accepted. `order` is what they ask for.
-abbrev pub words : {S : Type 0} → Result (List (List ℕ)) UsageKind → List S → Stage
+abbrev pub words : {S : Type 0} → Result Asked UsageKind → List S → Stage
 words order sources = record {
   refuses = λ status. (kind : UsageKind) × (status ≡ Usage kind) × (order ≡ Err kind) × (sources ≡ []);
   passes = IsOk order;

@@ -1,4 +1,5 @@
 pub mod BadLines
+pub mod CommandLine
 pub mod Ending
 pub mod Held
 pub mod Inputs

@@ -1,43 +1,39 @@
--- What words have to say, and which refusal is reported.
-use Rattle.std.specs.Prelude.{◌≡◌, ◌≢◌, ◌⊎◌, ◌<◌, ◌≤◌, ℕ, List, [], ◌∷◌, ◌++◌, codes, length}
+-- When each refusal holds of a command line, and which one is reported.
+use Rattle.std.specs.Prelude.{◌≡◌, ◌≢◌, ◌⊎◌, ◌<◌, ◌%◌, ℕ, false, Any, List, [], ◌∷◌, None, Some, codes, length}
 use Rattle.ygm_route.specs.Layout.{max_ranks}
+use Rattle.ygm_run.specs.declared.words.Form.{Form}
 use Rattle.ygm_run.specs.declared.words.UsageKind.{UsageKind}
-use Rattle.ygm_run.specs.declared.words.UsageKind.TheVariants.{NoJob, UnknownJob, UnknownOption, NoFile, TooManyRanks}
+use Rattle.ygm_run.specs.declared.words.UsageKind.TheVariants.{NoJob, UnknownJob, UnknownOption, OptionTwice, MissingValue, BadValue, NoFile, TooManyFiles, Layout, TooManyRanks}
+use Rattle.ygm_run.specs.Words.{Command, Given, cores_of, form_of, is_of_form, ranks_of}
 
--- an option: `--`, and at least one byte more
-abbrev pub IsOption : List ℕ → Type 0
-IsOption word = (byte : ℕ) × (bytes : List ℕ) × (word ≡ codes "--" ++ byte ∷ bytes)
+-- the first option has the name of a later one, or two of the later ones have one name
+abbrev pub NamedTwice : List Given → Type 0
+NamedTwice [] = ⊥
+NamedTwice (given ∷ later) = Any (λ (other : Given). other.name ≡ given.name) later ⊎ NamedTwice later
 
--- The words behind the job name these files: the first word is `--`, and the others are the files; or all are, and the
--- first of them is neither `--` nor an option.
-abbrev pub NameFiles : List (List ℕ) → List (List ℕ) → Type 0
-NameFiles words files = (words ≡ codes "--" ∷ files)
-    ⊎ ((words ≡ files) × ((first : List ℕ) (later : List (List ℕ)) → files ≡ first ∷ later
-    → (first ≢ codes "--") × (IsOption first → ⊥)))
+-- an option has a form and a value, and the value isn't of the form
+abbrev pub Misfits : Given → Type 0
+Misfits given = (form : Form) × (value : List ℕ) × (form_of given.name ≡ Some form) × (given.value ≡ Some value) × (is_of_form form value ≡ false)
 
--- the words are accepted, with these files: the first is the job tally, and the others name 1 to `max_ranks` files
-pub record AreAccepted (words files : List (List ℕ)) : Type 0 where
-  pub behind : List (List ℕ)
-  pub job : words ≡ codes "tally" ∷ behind
-  pub named : NameFiles behind files
-  pub some : 1 ≤ length files
-  pub few : length files ≤ max_ranks
+-- when each refusal holds
+abbrev pub Holds : Command → UsageKind → Type 0
+Holds command NoJob = command.job ≡ None
+Holds command UnknownJob = command.job ≢ Some (codes "tally")
+Holds command UnknownOption = Any (λ (given : Given). form_of given.name ≡ None) command.options
+Holds command OptionTwice = NamedTwice command.options
+Holds command MissingValue = Any (λ (given : Given). given.value ≡ None) command.options
+Holds command BadValue = Any Misfits command.options
+Holds command NoFile = command.files ≡ []
+Holds command TooManyFiles = ranks_of command < length command.files
+Holds command Layout = (ranks_of command ≡ 0) ⊎ ((cores_of command ≡ 0) ⊎ (ranks_of command % cores_of command ≢ 0))
+Holds command TooManyRanks = max_ranks < ranks_of command
 
--- when each refusal holds of the words
-abbrev pub Holds : UsageKind → List (List ℕ) → Type 0
-Holds NoJob words = words ≡ []
-Holds UnknownJob words = (job : List ℕ) × (behind : List (List ℕ)) × (words ≡ job ∷ behind) × (job ≢ codes "tally")
-Holds UnknownOption words = (job first : List ℕ) × (behind : List (List ℕ)) × (words ≡ job ∷ first ∷ behind) × IsOption first
-Holds NoFile words = (job : List ℕ) × (behind : List (List ℕ)) × (words ≡ job ∷ behind) × NameFiles behind []
-Holds TooManyRanks words = (job : List ℕ) × (behind files : List (List ℕ)) × (words ≡ job ∷ behind)
-    × NameFiles behind files × (max_ranks < length files)
+-- no refusal holds
+abbrev pub AreAccepted : Command → Type 0
+AreAccepted command = (kind : UsageKind) → Holds command kind → ⊥
 
--- the refusals, in their order
-abbrev pub refusals : List UsageKind
-refusals = NoJob ∷ UnknownJob ∷ UnknownOption ∷ NoFile ∷ TooManyRanks ∷ []
-
--- the first of the refusals that holds of the words is this one
-abbrev pub IsFirst : List UsageKind → List (List ℕ) → UsageKind → Type 0
-IsFirst [] words kind = ⊥
-IsFirst (first ∷ later) words kind = (Holds first words × (kind ≡ first))
-    ⊎ ((Holds first words → ⊥) × IsFirst later words kind)
+-- the first of the refusals that holds is this one
+abbrev pub IsFirst : List UsageKind → Command → UsageKind → Type 0
+IsFirst [] command kind = ⊥
+IsFirst (first ∷ later) command kind = (Holds command first × (kind ≡ first))
+    ⊎ ((Holds command first → ⊥) × IsFirst later command kind)

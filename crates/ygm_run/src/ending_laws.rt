@@ -1,5 +1,5 @@
 //! What follows from why a run ends, as laws over the stages.
-ghost use Rattle.std.specs.Prelude.{◌≡◌, ◌⊎◌, ◌≤◌, ℕ, List, [], ◌∷◌, Some, Result, IsOk, length, slice_get};
+ghost use Rattle.std.specs.Prelude.{◌≡◌, ◌⊎◌, ◌≤◌, ℕ, List, [], ◌∷◌, Some, Result, IsOk, slice_get};
 ghost use Rattle.world_core.specs.Limits.{most_letters};
 ghost use Rattle.ygm_io.specs.Content.{ExposedBytes};
 ghost use Rattle.ygm_io.specs.Rising.{Rose};
@@ -10,17 +10,18 @@ ghost use Rattle.ygm_run.specs.BadLines.{tally_wrong};
 ghost use Rattle.ygm_run.specs.Ending.{Ends, counts, inputs, opens, words, writes};
 ghost use Rattle.ygm_run.specs.Job.{AreExposed, letters_bound, lines_of_each};
 ghost use Rattle.ygm_run.specs.Verdict.{Text, tally_verdict};
+ghost use Rattle.ygm_run.specs.Words.{Asked};
 
 use ygm_io::Source;
 
 /// With accepted words, files that expose their bytes and have no bad line, few enough lines, and devices that don't fail,
 /// only memory can run out.
 pub fn only_memory_can_run_out<S: Source>()
-    ensures { (order : Result (List (List ℕ)) UsageKind) (contents : List ExposedBytes) (sources : List S)
+    ensures { (order : Result Asked UsageKind) (ranks : ℕ) (contents : List ExposedBytes) (sources : List S)
         (opening opening_now writing writing_now : ℕ) (status : Status) (bytes : List (List ℕ)) (text : List ℕ)
         → Ends (words order sources
         ∷ opens S.left S.faults contents sources opening opening_now
-        ∷ counts (length contents) contents
+        ∷ counts ranks contents
         ∷ inputs tally_wrong S.left S.faults contents sources
         ∷ writes writing writing_now
         ∷ []) status

@@ -5,6 +5,7 @@ ghost use Rattle.std.specs.Prelude.{◌≡◌, ◌⊎◌, drop, IfErr, IfOk};
 ghost use Rattle.std.specs.Vec.Iter.{into_iter_items};
 
 pub mod ending_laws;
+mod help;
 mod job;
 pub mod limit_laws;
 pub mod line_laws;
@@ -23,6 +24,7 @@ pub mod verdict_laws;
 pub mod words;
 pub mod words_laws;
 
+use crate::help::{asked_text, show};
 pub use running::run;
 use std::alloc::{AllocError, Global};
 use std::env;
@@ -68,6 +70,9 @@ fn main(rt: HostRuntime) -> ExitCode {
     let alloc = rt.alloc();
     let mut out = StdSink::new(rt.stdout());
     let mut notes = StdSink::new(rt.stderr());
+    if let Some(text) = asked_text(&words) {
+        return ExitCode::from(show(text, &mut out, &mut notes).number());
+    }
     let mut files = StdFiles::new(rt);
     let ended = run(&rt, alloc, &words, &mut files, &mut out, &mut notes);
     ExitCode::from(ended.status.number())

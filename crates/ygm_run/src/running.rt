@@ -11,10 +11,10 @@ ghost use Rattle.ygm_run.specs.Job.{AreExposed, OfText};
 ghost use Rattle.ygm_run.specs.TallyText.{IsTableOf};
 ghost use Rattle.ygm_run.specs.Notes.{FileIsBelow, note_takes_memory, note_text};
 ghost use Rattle.ygm_run.specs.Verdict.{tally_verdict};
-ghost use Rattle.ygm_run.specs.Words.{named, order_of, texts_of};
+ghost use Rattle.ygm_run.specs.Words.{CanRun, named, order_of, ranks_in, texts_of};
 
 use crate::note::{OUT_OF_MEMORY, fixed_note, note_of};
-use crate::run_job::{JobFault, JobKind, Ran, Settings, run_job};
+use crate::run_job::{JobFault, Ran, Settings, run_job};
 use crate::status::{Ended, InputFault, Status};
 use crate::tally_text::text_of_shards;
 use crate::words::read_words;
@@ -22,7 +22,6 @@ use counting_set::Counting;
 use std::alloc::Global;
 use std::sync::Wait;
 use ygm_io::{Files, OpenFailed, Sink, Source, write_all};
-use ygm_route::{Layout, Scheme};
 
 impl JobFault {
     // The status of a job that has no shards.
@@ -72,8 +71,8 @@ fn open_all<F: Files>(
     Ok(())
 }
 
-// Writes the text.
-fn write_text<O: Sink>(text: &[u8], out: &mut O) -> Status
+/// Writes a text.
+pub(crate) fn write_text<O: Sink>(text: &[u8], out: &mut O) -> Status
     ensures ends { Ends (writes (O.faults out.old) (O.faults out.new) ∷ []) result }
     ensures may_write { may_write result ≡ true }
     ensures text { IsWritten result text.now (O.holds out.old) (O.holds out.new) }
@@ -97,18 +96,18 @@ fn finish<O: Sink>(alloc: Global, shards: &[Counting], out: &mut O) -> Status
     }
 }
 
-// Runs tally over the sources, with a rank for each, and writes its text.
+// Runs tally over the sources, in the world of the settings, and writes its text. Source i is that of rank i.
 fn tally<R: Wait, S: Source, O: Sink>(
     rt: &R,
     alloc: Global,
+    settings: &Settings,
     sources: Vec<S>,
     out: &mut O,
 ) -> Ended<S>
-    requires some { 1 ≤ length sources.items }
-    requires few { length sources.items ≤ max_ranks }
+    requires settings { CanRun settings.now (length sources.items) }
     requires fresh { (rank : ℕ) (source : S) → slice_get sources.items rank ≡ Some source → S.faults source ≡ 0 }
     ensures ends { let contents = map S.left sources.items in
-        Ends (counts (length sources.items) contents
+        Ends (counts settings.now.layout.ranks contents
         ∷ inputs tally_wrong S.left S.faults contents result.sources.items
         ∷ writes (O.faults out.old) (O.faults out.new)
         ∷ []) result.status }
@@ -117,15 +116,7 @@ fn tally<R: Wait, S: Source, O: Sink>(
     ensures rests { AreRests S.left (map S.left sources.items) result.sources.items }
     ensures all { length result.sources.items ≡ length sources.items }
 {
-    let Ok(layout) = Layout::new(sources.len() as u32, 1) else {
-        unreachable!();
-    };
-    let settings = Settings {
-        kind: JobKind::Tally,
-        layout,
-        scheme: Scheme::Direct,
-    };
-    let Ran { outcome, sources } = run_job(rt, alloc, &settings, sources);
+    let Ran { outcome, sources } = run_job(rt, alloc, settings, sources);
     let status = match outcome {
         Ok(shards) => finish(alloc, &shards, out),
         Err(fault) => fault.status(),
@@ -137,16 +128,16 @@ fn tally<R: Wait, S: Source, O: Sink>(
 fn run_tally<R: Wait, F: Files, O: Sink>(
     rt: &R,
     alloc: Global,
+    settings: &Settings,
     names: &[String],
     files: &mut F,
     out: &mut O,
 ) -> Ended<F::Src>
-    requires some { 1 ≤ length names.now }
-    requires few { length names.now ≤ max_ranks }
+    requires { CanRun settings.now (length names.now) }
     ensures ends { let contents = map (F.content files.old) (texts_of names.now) in
         let sources = result.sources.items in
         Ends (opens F.Src.left F.Src.faults contents sources (F.faults files.old) (F.faults files.new)
-        ∷ counts (length contents) contents
+        ∷ counts settings.now.layout.ranks contents
         ∷ inputs tally_wrong F.Src.left F.Src.faults contents sources
         ∷ writes (O.faults out.old) (O.faults out.new)
         ∷ []) result.status }
@@ -161,7 +152,7 @@ fn run_tally<R: Wait, F: Files, O: Sink>(
     if let Err(status) = open_all(names, files, &mut sources) {
         return Ended { status, sources };
     }
-    tally(rt, alloc, sources, out)
+    tally(rt, alloc, settings, sources, out)
 }
 
 // Writes the note of how the run ended, and returns the status. If the note takes memory and there is none, that is the
@@ -188,7 +179,7 @@ fn report<N: Sink>(alloc: Global, status: Status, names: &[String], notes: &mut 
 }
 
 /// Runs the job that the words ask for, over the files that they name. Writes its text to `out`, and a note of
-/// how it ended to `notes`. There is a rank for each file, and all of them run on this thread, turn by turn. The call is
+/// how it ended to `notes`. Rank i reads file i, and a rank without a file reads nothing. All ranks run on this thread, turn by turn. The call is
 /// done once all ranks have left the job's barrier; that they do isn't promised.
 ///
 /// Returns the sources that were opened, in the order of the files: none after `Usage`, those before the file
@@ -204,13 +195,13 @@ pub fn run<R: Wait, F: Files, O: Sink, N: Sink>(
     notes: &mut N,
 ) -> Ended<F::Src>
     // Why the run ended so: at one of five stages, after it had passed those before it, or because memory ran out.
-    // `named` are the files of accepted words, and none for refused ones.
+    // `named` are the files of accepted words and `ranks_in` their ranks; refused words have none.
     ensures ends { let order = order_of (texts_of words.now) in
         let contents = map (F.content files.old) (named order) in
         let sources = result.sources.items in
         Ends (words_stage order sources
         ∷ opens F.Src.left F.Src.faults contents sources (F.faults files.old) (F.faults files.new)
-        ∷ counts (length contents) contents
+        ∷ counts (ranks_in order) contents
         ∷ inputs tally_wrong F.Src.left F.Src.faults contents sources
         ∷ writes (O.faults out.old) (O.faults out.new)
         ∷ []) result.status }
@@ -237,7 +228,7 @@ pub fn run<R: Wait, F: Files, O: Sink, N: Sink>(
 {
     match read_words(words) {
         Ok(order) => {
-            let ended = run_tally(rt, alloc, order.names, files, out);
+            let ended = run_tally(rt, alloc, &order.settings, order.names, files, out);
             Ended {
                 status: report(alloc, ended.status, order.names, notes),
                 sources: ended.sources,

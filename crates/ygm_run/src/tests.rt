@@ -180,6 +180,17 @@ fn two_files(alloc: Global, fails: &[u64]) -> Result<MemFiles, AllocError> {
 }
 
 #[test]
+fn a_layout_changes_no_text(rt: HostRuntime) -> Result<(), Fail> {
+    let mut files = two_files(rt.alloc(), &[])?;
+    let words = ["tally", "--ranks", "8", "--cores", "4", "f0", "f1"];
+    let outcome = run_over(&rt, &mut files, &words)?;
+    assert_eq!(rt; outcome.ended.status, Status::Done);
+    assert_eq!(rt; outcome.ended.sources.len(), 2);
+    assert_eq!(rt; outcome.out.bytes(), b"2\ta\n3\tb\n".as_slice());
+    Ok(())
+}
+
+#[test]
 fn a_job_without_files_is_refused(rt: HostRuntime) -> Result<(), Fail> {
     let alloc = rt.alloc();
     let outcome = run_over(&rt, &mut two_files(alloc, &[])?, &["tally"])?;

@@ -78,15 +78,15 @@ module _ {S : Type 0} (wrong : List ℕ → Option LineWhy) (left : S → Expose
 
 -- a run of tally writes the verdict's text, or reports the verdict's bad line
 pub follows : {S : Type 0} (left : S → ExposedBytes) (faults : S
-    → ℕ) (contents : List ExposedBytes) (sources : List S) (opening opening_now writing writing_now : ℕ) (status : Status) (before now : ExposedBytes)
-    → FilesEnd tally_wrong left faults contents sources opening opening_now writing writing_now status
+    → ℕ) (ranks : ℕ) (contents : List ExposedBytes) (sources : List S) (opening opening_now writing writing_now : ℕ) (status : Status) (before now : ExposedBytes)
+    → FilesEnd tally_wrong left faults ranks contents sources opening opening_now writing writing_now status
     → (files : List (List ℕ)) → AreExposed contents files → IsWritten status (tally_text (lines_of_each files)) before now
     → FollowsVerdict (tally_verdict files) status before now
-follows left faults contents sources opening opening_now writing writing_now status before now ends files exposed written = record {
+follows left faults ranks contents sources opening opening_now writing writing_now status before now ends files exposed written = record {
   written = λ may.
-      let read = read_if_written tally_wrong left faults contents sources opening opening_now writing writing_now status ends may in
+      let read = read_if_written tally_wrong left faults ranks contents sources opening opening_now writing writing_now status ends may in
       (tally_text (lines_of_each files), ap (λ w. bad_or_text w (tally_text (lines_of_each files))) (none_if_all_read tally_wrong left faults contents files sources exposed read.0 read.1), written);
   bad_line = λ rank line why is.
-      let lowest = lowest_if_bad tally_wrong left faults contents sources opening opening_now writing writing_now status ends rank line why is in
+      let lowest = lowest_if_bad tally_wrong left faults ranks contents sources opening opening_now writing writing_now status ends rank line why is in
       ap (λ w. bad_or_text w (tally_text (lines_of_each files))) (bad_if_lowest tally_wrong left faults contents files sources exposed lowest.0 rank line why lowest.1);
 }

@@ -12,7 +12,7 @@ use Rattle.ygm_run.specs.declared.words.UsageKind.{UsageKind}
 use Rattle.ygm_run.specs.Ending.{Ends, IsWritten, Stage, counts, inputs, may_write, of_input, opens, words, writes}
 use Rattle.ygm_run.specs.Inputs.{AllRead, IsLowestFault}
 use Rattle.ygm_run.specs.JobEnds.{JobStops, status_of}
-use Rattle.ygm_run.specs.Words.{named}
+use Rattle.ygm_run.specs.Words.{Asked, named, ranks_in}
 
 -- one stage more was passed
 pub passed : (stage : Stage) (later : List Stage) (status : Status) → stage.passes → Ends later status → Ends (stage ∷ later) status
@@ -50,18 +50,18 @@ of_input_line : (rank other line : ℕ) (why : LineWhy) (found : InputFault) →
 of_input_line rank other line why Read e = absurd (let f : ReadFault other ≡ BadLine rank line why = e in cc)
 of_input_line rank other line why (Bad at reason) e = let f : BadLine other at reason ≡ BadLine rank line why = e in (cc, cc)
 
--- how a run ended behind the words, over files of these contents
-abbrev pub FilesEnd : {S : Type 0} → (List ℕ → Option LineWhy) → (S → ExposedBytes) → (S → ℕ) → List ExposedBytes → List S
+-- how a run of so many ranks ended after the words, over files of these contents
+abbrev pub FilesEnd : {S : Type 0} → (List ℕ → Option LineWhy) → (S → ExposedBytes) → (S → ℕ) → (ranks : ℕ) → List ExposedBytes → List S
     → (opening opening_now writing writing_now : ℕ) → Status → Type 0
-FilesEnd wrong left faults contents sources opening opening_now writing writing_now status =
-    Ends (opens left faults contents sources opening opening_now ∷ counts (length contents) contents
+FilesEnd wrong left faults ranks contents sources opening opening_now writing writing_now status =
+    Ends (opens left faults contents sources opening opening_now ∷ counts ranks contents
     ∷ inputs wrong left faults contents sources ∷ writes writing writing_now ∷ []) status
 
 -- the same, with the words
-abbrev pub RunEnds : {S : Type 0} → (List ℕ → Option LineWhy) → (S → ExposedBytes) → (S → ℕ) → Result (List (List ℕ)) UsageKind → List ExposedBytes → List S
+abbrev pub RunEnds : {S : Type 0} → (List ℕ → Option LineWhy) → (S → ExposedBytes) → (S → ℕ) → Result Asked UsageKind → (ranks : ℕ) → List ExposedBytes → List S
     → (opening opening_now writing writing_now : ℕ) → Status → Type 0
-RunEnds wrong left faults order contents sources opening opening_now writing writing_now status =
-    Ends (words order sources ∷ opens left faults contents sources opening opening_now ∷ counts (length contents) contents
+RunEnds wrong left faults order ranks contents sources opening opening_now writing writing_now status =
+    Ends (words order sources ∷ opens left faults contents sources opening opening_now ∷ counts ranks contents
     ∷ inputs wrong left faults contents sources ∷ writes writing writing_now ∷ []) status
 
 module _ {S : Type 0} (wrong : List ℕ → Option LineWhy) (left : S → ExposedBytes) (faults : S → ℕ) where
@@ -81,29 +81,28 @@ module _ {S : Type 0} (wrong : List ℕ → Option LineWhy) (left : S → Expose
     job_stopped JobNoMemory same stops = inl same
 
   -- a job ends so over the same files
-  pub job_over : (ranks among : ℕ) (contents others : List ExposedBytes) (sources : List S) (later : List Stage) (status : Status)
-      → among ≡ ranks → others ≡ contents
-      → Ends (counts among others ∷ inputs wrong left faults others sources ∷ later) status
+  pub job_over : (ranks : ℕ) (contents others : List ExposedBytes) (sources : List S) (later : List Stage) (status : Status)
+      → others ≡ contents
+      → Ends (counts ranks others ∷ inputs wrong left faults others sources ∷ later) status
       → Ends (counts ranks contents ∷ inputs wrong left faults contents sources ∷ later) status
-  job_over ranks among contents others sources later status same over ends =
-      subst (λ k. Ends (counts k contents ∷ inputs wrong left faults contents sources ∷ later) status) same
-      (subst (λ hs. Ends (counts among hs ∷ inputs wrong left faults hs sources ∷ later) status) over ends)
+  job_over ranks contents others sources later status over ends =
+      subst (λ hs. Ends (counts ranks hs ∷ inputs wrong left faults hs sources ∷ later) status) over ends
 
-  -- the words were accepted, and name these files
-  pub accepted : (order : Result (List (List ℕ)) UsageKind) (names : List (List ℕ)) (content : List ℕ → ExposedBytes) (sources : List S)
-      (opening opening_now writing writing_now : ℕ) (status : Status) → order ≡ Ok names
-      → FilesEnd wrong left faults (map content names) sources opening opening_now writing writing_now status
-      → RunEnds wrong left faults order (map content (named order)) sources opening opening_now writing writing_now status
-  accepted order names content sources opening opening_now writing writing_now status is ends =
-      subst (λ o. RunEnds wrong left faults o (map content (named o)) sources opening opening_now writing writing_now status) (sym is) (under ends) where
-        under : FilesEnd wrong left faults (map content names) sources opening opening_now writing writing_now status
-            → RunEnds wrong left faults (Ok names) (map content names) sources opening opening_now writing writing_now status
+  -- the words were accepted, and ask for this
+  pub accepted : (order : Result Asked UsageKind) (asked : Asked) (content : List ℕ → ExposedBytes) (sources : List S)
+      (opening opening_now writing writing_now : ℕ) (status : Status) → order ≡ Ok asked
+      → FilesEnd wrong left faults asked.settings.layout.ranks (map content asked.names) sources opening opening_now writing writing_now status
+      → RunEnds wrong left faults order (ranks_in order) (map content (named order)) sources opening opening_now writing writing_now status
+  accepted order asked content sources opening opening_now writing writing_now status is ends =
+      subst (λ o. RunEnds wrong left faults o (ranks_in o) (map content (named o)) sources opening opening_now writing writing_now status) (sym is) (under ends) where
+        under : FilesEnd wrong left faults asked.settings.layout.ranks (map content asked.names) sources opening opening_now writing writing_now status
+            → RunEnds wrong left faults (Ok asked) asked.settings.layout.ranks (map content asked.names) sources opening opening_now writing writing_now status
         under (inl none) = inl none
         under (inr later) = inr (inr (refl, later))
 
-  module _ (contents : List ExposedBytes) (sources : List S) (opening opening_now writing writing_now : ℕ) (status : Status) where
+  module _ (ranks : ℕ) (contents : List ExposedBytes) (sources : List S) (opening opening_now writing writing_now : ℕ) (status : Status) where
     -- a file that couldn't be opened is one of the files
-    pub file_below : FilesEnd wrong left faults contents sources opening opening_now writing writing_now status → (file : ℕ) → status ≡ OpenFault file → file < length contents
+    pub file_below : FilesEnd wrong left faults ranks contents sources opening opening_now writing writing_now status → (file : ℕ) → status ≡ OpenFault file → file < length contents
     file_below (inl none) file is = absurd (let e : NoMemory ≡ OpenFault file = sym none ∙ is in cc)
     file_below (inr (inl (other, same, first, rose))) file is = let e : OpenFault other ≡ OpenFault file = sym same ∙ is in let f : other ≡ file = cc in subst (λ k. k < length contents) f first.within
     file_below (inr (inr (opened, inl (rank, limit, same, full)))) file is = absurd (let e : CountFull rank limit ≡ OpenFault file = sym same ∙ is in cc)
@@ -112,7 +111,7 @@ module _ {S : Type 0} (wrong : List ℕ → Option LineWhy) (left : S → Expose
     file_below (inr (inr (opened, inr (any, inr (read, inr (stands, done)))))) file is = absurd (let e : Done ≡ OpenFault file = sym done ∙ is in cc)
 
     -- a run that writes has opened all files and read them to their ends
-    pub read_if_written : FilesEnd wrong left faults contents sources opening opening_now writing writing_now status → may_write status ≡ true → (length sources ≡ length contents) × AllRead wrong left faults contents sources
+    pub read_if_written : FilesEnd wrong left faults ranks contents sources opening opening_now writing writing_now status → may_write status ≡ true → (length sources ≡ length contents) × AllRead wrong left faults contents sources
     read_if_written (inl none) written = absurd (unlike status NoMemory none refl written)
     read_if_written (inr (inl (file, same, first, rose))) written = absurd (unlike status (OpenFault file) same refl written)
     read_if_written (inr (inr (opened, inl (rank, limit, same, full)))) written = absurd (unlike status (CountFull rank limit) same refl written)
@@ -120,7 +119,7 @@ module _ {S : Type 0} (wrong : List ℕ → Option LineWhy) (left : S → Expose
     read_if_written (inr (inr (opened, inr (any, inr (read, last))))) written = (opened.0, read)
 
     -- a bad line that is reported is the fault of the lowest rank with one
-    pub lowest_if_bad : FilesEnd wrong left faults contents sources opening opening_now writing writing_now status → (rank line : ℕ) (why : LineWhy) → status ≡ BadLine rank line why
+    pub lowest_if_bad : FilesEnd wrong left faults ranks contents sources opening opening_now writing writing_now status → (rank line : ℕ) (why : LineWhy) → status ≡ BadLine rank line why
         → (length sources ≡ length contents) × IsLowestFault wrong left faults contents sources rank (Bad line why)
     lowest_if_bad (inl none) rank line why is = absurd (let e : NoMemory ≡ BadLine rank line why = sym none ∙ is in cc)
     lowest_if_bad (inr (inl (file, same, first, rose))) rank line why is = absurd (let e : OpenFault file ≡ BadLine rank line why = sym same ∙ is in cc)

@@ -26,6 +26,6 @@ returns-clause-ends g c =
     let last = writes (g.O.Sink.faults c.args.out.now) (g.O.Sink.faults c.tally.new.out) in
     let opened = c.in_default.ensures.passes in
     let held : map left start ≡ contents = c.open_all.ensures.opened ∙ ap (map content) (take_all (length start) names (omega (arith, opened.0, length-map names content))) in
-    passed (opens left faults contents after (g.F.Files.faults c.args.files.now) (g.F.Files.faults c.open_all.new.files)) (counts (length contents) contents ∷ inputs tally_wrong left faults contents after ∷ last ∷ []) c.tally.result.status
+    passed (opens left faults contents after (g.F.Files.faults c.args.files.now) (g.F.Files.faults c.open_all.new.files)) (counts c.args.settings.now.layout.ranks contents ∷ inputs tally_wrong left faults contents after ∷ last ∷ []) c.tally.result.status
     (c.tally.ensures.all ∙ opened.0, opened.1)
-    (job_over tally_wrong left faults (length contents) (length start) contents (map left start) after (last ∷ []) c.tally.result.status opened.0 held c.tally.ensures.ends)
+    (job_over tally_wrong left faults c.args.settings.now.layout.ranks contents (map left start) after (last ∷ []) c.tally.result.status held c.tally.ensures.ends)
