@@ -1,9 +1,10 @@
 # make run      runs the main job on the sample data: the proved program where it is up to date, otherwise unproved
 # make          proves and builds the program
 # make test     the whole gate: proofs, must-fail edits, tests, the stored run, and the program seen from outside
-# make install  puts the proved program into PREFIX/bin
+# make install  puts the proved program into PREFIX/bin, and its man page and completions into PREFIX/share
 PREFIX ?= /usr/local
 PROGRAM = crates/ygm_run/out/ygm_run
+SHARE = $(DESTDIR)$(PREFIX)/share
 SAMPLE = tally data/access1.log data/access2.log data/access3.log
 MAKEFLAGS += --no-print-directory
 
@@ -39,8 +40,14 @@ test:
 	@sh checks/contracts.sh
 	@sh checks/contracts_test.sh
 	@sh checks/refusals.sh $(PROGRAM)
+	@sh checks/options.sh $(PROGRAM)
 	@sh checks/against_sort.sh $(PROGRAM) README.md docs/*.md
+	@sh checks/layouts.sh $(PROGRAM)
 	@sh checks/generated.sh $(PROGRAM) 100000
 
 install: all
 	install -D $(PROGRAM) $(DESTDIR)$(PREFIX)/bin/ygm_run
+	install -Dm644 docs/ygm_run.1 $(SHARE)/man/man1/ygm_run.1
+	install -Dm644 completions/ygm_run.bash $(SHARE)/bash-completion/completions/ygm_run
+	install -Dm644 completions/_ygm_run $(SHARE)/zsh/site-functions/_ygm_run
+	install -Dm644 completions/ygm_run.fish $(SHARE)/fish/vendor_completions.d/ygm_run.fish
