@@ -15,7 +15,7 @@ NoneClosed held next = (queue_at held next).closed ≡ []
 
 -- no letter waits for others to join its batch
 abbrev pub NoneOpen : List Queue → ℕ → Type 0
-NoneOpen held next = (queue_at held next).open ≡ []
+NoneOpen held next = (queue_at held next).gathered ≡ []
 
 -- These letters are held in addition: of each pair of ranks they come last, and each counts for its sender.
 pub record Gains (before after letters : List Letter) : Type 0 where

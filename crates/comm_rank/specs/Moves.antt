@@ -30,7 +30,7 @@ pub record MayPut (held : Buffered) (post : PostState) : Type 0 where
 
 -- no letter joins or leaves those that wait for others to join their batch
 abbrev pub SameOpen : List Queue → List Queue → Type 0
-SameOpen before after = (next : ℕ) → (queue_at after next).open ≡ (queue_at before next).open
+SameOpen before after = (next : ℕ) → (queue_at after next).gathered ≡ (queue_at before next).gathered
 
 -- what is held for other next hops is unchanged
 pub record OthersUnchanged (to : ℕ) (before after : List Queue) : Type 0 where

@@ -4,11 +4,12 @@ ghost use Rattle.std.specs.Prelude.{◌≡◌, ◌<◌, IfOk, length, slice_get,
 use crate::{Batch, LetterRef};
 use std::alloc::{AllocError, Global};
 use std::marker::Model;
+use std::sync::Arc;
 
 /// The letters of a batch, as they are kept where a batch was put or taken.
 #[derive(Debug, Drop)]
 pub struct Letters {
-    batch: Batch,
+    batch: Arc<Batch>,
 }
 
 impl Model for Letters {
@@ -17,7 +18,7 @@ impl Model for Letters {
 
     ghost Value = { List Letter };
 
-    ghost view = { λ letters. letters.batch };
+    ghost view = { λ letters. letters.batch.value };
 }
 
 impl Letters {
@@ -28,15 +29,17 @@ impl Letters {
         ensures { IfOk result (λ letters. letters ≡ batch.now) }
     {
         Ok(Letters {
-            batch: batch.copy(alloc)?,
+            batch: Arc::new(alloc, batch.copy(alloc)?)?,
         })
     }
 
-    /// A list of the same letters.
-    pub fn copy(&self, alloc: Global) -> Result<Letters, AllocError>
+    /// A list of the same letters, which shares their bytes.
+    pub fn copy(&self) -> Result<Letters, AllocError>
         ensures { IfOk result (λ letters. letters ≡ self.now) }
     {
-        Letters::of(alloc, &self.batch)
+        Ok(Letters {
+            batch: Arc::try_clone(&self.batch)?,
+        })
     }
 
     /// The number of its letters.

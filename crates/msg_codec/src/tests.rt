@@ -72,7 +72,7 @@ fn letters_are_those_of_their_batch(rt: HostRuntime) -> Result<(), Fail> {
     let letters = Letters::of(rt.alloc(), &batch)?;
     batch.push(letters.letter_at(0))?;
     assert_eq!(rt; letters.count(), 2);
-    let copied = letters.copy(rt.alloc())?;
+    let copied = letters.copy()?;
     assert_eq!(rt; copied.count(), 2);
     let first = copied.letter_at(0);
     assert_eq!(rt; (first.to, first.from, first.tag), (2, 0, 1));

@@ -11,14 +11,14 @@ use Rattle.ygm_route.specs.Layout.{Shape}
 -- still gain letters.
 pub record Queue : Type 0 where
   pub closed : List (List Letter)
-  pub «open» : List Letter
+  pub gathered : List Letter
 
 abbrev pub empty_queue : Queue
-empty_queue = record { closed = []; «open» = [] }
+empty_queue = record { closed = []; gathered = [] }
 
 -- its letters, the oldest first
 abbrev pub letters_in : Queue → List Letter
-letters_in queue = flat_map (λ batch. batch) queue.closed ++ queue.open
+letters_in queue = flat_map (λ batch. batch) queue.closed ++ queue.gathered
 
 -- what is held for this next hop
 abbrev pub queue_at : List Queue → ℕ → Queue
@@ -63,8 +63,8 @@ pub record IsBatchFor (buffered : Buffered) (next : ℕ) (letters : List Letter)
 -- What a queue holds: batches for its next hop, and letters that may share one.
 pub record IsQueueFor (buffered : Buffered) (next : ℕ) (queue : Queue) : Type 0 where
   pub closed : AllByRecursion (IsBatchFor buffered next) queue.closed
-  pub share : MayShare buffered.limit queue.open
-  pub «open» : AllByRecursion (IsRouted buffered next) queue.open
+  pub share : MayShare buffered.limit queue.gathered
+  pub gathered : AllByRecursion (IsRouted buffered next) queue.gathered
 
 -- there is a queue for each rank, with letters whose next hop it is
 pub record AreRouted (buffered : Buffered) : Type 0 where
@@ -83,17 +83,17 @@ may_join limit (first ∷ others) l = not (nat_lt limit (length (spelling ((firs
 -- the next one.
 abbrev pub added : ℕ → Queue → Letter → Queue
 added limit queue l =
-    if may_join limit queue.open l
-    then record { closed = queue.closed; «open» = queue.open ++ l ∷ [] }
-    else record { closed = queue.closed ++ queue.open ∷ []; «open» = l ∷ [] }
+    if may_join limit queue.gathered l
+    then record { closed = queue.closed; gathered = queue.gathered ++ l ∷ [] }
+    else record { closed = queue.closed ++ queue.gathered ∷ []; gathered = l ∷ [] }
 
 -- the open batch, if it has a letter, was closed
 abbrev pub closed_with : List (List Letter) → List Letter → Queue
-closed_with closed [] = record { closed = closed; «open» = [] }
-closed_with closed (first ∷ others) = record { closed = closed ++ (first ∷ others) ∷ []; «open» = [] }
+closed_with closed [] = record { closed = closed; gathered = [] }
+closed_with closed (first ∷ others) = record { closed = closed ++ (first ∷ others) ∷ []; gathered = [] }
 
 abbrev pub closed_up : Queue → Queue
-closed_up queue = closed_with queue.closed queue.open
+closed_up queue = closed_with queue.closed queue.gathered
 
 -- this batch is the oldest closed one again
 abbrev pub given_back : Queue → List Letter → Queue

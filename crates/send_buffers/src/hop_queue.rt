@@ -15,7 +15,7 @@ use std::mem;
 #[derive(Drop)]
 pub(crate) struct HopQueue {
     closed: VecDeque<Batch>,
-    open: Batch,
+    gathered: Batch,
 }
 
 impl Model for HopQueue {
@@ -26,11 +26,11 @@ impl Model for HopQueue {
     ghost Value = { Stored };
 
     ghost view = { λ queue. record {
-      held = record { closed = queue.closed.items; «open» = queue.open };
-      room = deque_capacity queue.closed - deque_len queue.closed - kept_for queue.open;
+      held = record { closed = queue.closed.items; gathered = queue.gathered };
+      room = deque_capacity queue.closed - deque_len queue.closed - kept_for queue.gathered;
     } };
 
-    ghost invariant = { λ queue. deque_len queue.closed + kept_for queue.open ≤ deque_capacity queue.closed };
+    ghost invariant = { λ queue. deque_len queue.closed + kept_for queue.gathered ≤ deque_capacity queue.closed };
 }
 
 /// A batch of one letter, with room for as many bytes as a batch may have.
@@ -50,31 +50,31 @@ impl HopQueue {
     {
         HopQueue {
             closed: VecDeque::new(alloc),
-            open: Batch::empty(alloc),
+            gathered: Batch::empty(alloc),
         }
     }
 
     /// Whether the open batch may gain the letter.
     fn may_gain(&self, limit: usize, letter: LetterRef<'_>) -> bool
-        ensures { result ≡ may_join limit self.now.held.open (letter_of letter.entry) }
+        ensures { result ≡ may_join limit self.now.held.gathered (letter_of letter.entry) }
     {
-        if self.open.count() == 0 {
+        if self.gathered.count() == 0 {
             return true;
         }
-        let taken = self.open.bytes_len();
+        let taken = self.gathered.bytes_len();
         taken <= limit && letter.spelled_len() <= limit - taken
     }
 
     /// Appends a letter to the open batch. The first letter reserves the memory of the batch, and that to close it.
     fn gain(&mut self, limit: usize, letter: LetterRef<'_>) -> Result<(), AllocError>
-        ensures ok { OnOk result (self.new.held ≡ record self.old.held { «open» = self.old.held.open ++ letter_of letter.entry ∷ [] }) }
+        ensures ok { OnOk result (self.new.held ≡ record self.old.held { gathered = self.old.held.gathered ++ letter_of letter.entry ∷ [] }) }
         ensures err { OnErr result (self.new.held ≡ self.old.held) }
     {
-        if self.open.count() == 0 {
+        if self.gathered.count() == 0 {
             self.closed.reserve(1)?;
-            self.open.reserve(limit.max(letter.spelled_len()))?;
+            self.gathered.reserve(limit.max(letter.spelled_len()))?;
         }
-        self.open.push(letter)
+        self.gathered.push(letter)
     }
 
     /// Adds a letter to the open batch, or to the next one.
@@ -98,11 +98,11 @@ impl HopQueue {
 
     /// Closes the open batch, which has a letter, and opens another. It takes no memory.
     fn close(&mut self, next: Batch)
-        requires some { 0 < length self.old.held.open }
+        requires some { 0 < length self.old.held.gathered }
         requires room { kept_for next ≤ self.old.room }
-        ensures { self.new.held ≡ record { closed = self.old.held.closed ++ self.old.held.open ∷ []; «open» = next } }
+        ensures { self.new.held ≡ record { closed = self.old.held.closed ++ self.old.held.gathered ∷ []; gathered = next } }
     {
-        let full = mem::replace(&mut self.open, next);
+        let full = mem::replace(&mut self.gathered, next);
         self.closed.push_back_reserved(full);
     }
 
@@ -110,7 +110,7 @@ impl HopQueue {
     pub(crate) fn close_up(&mut self, alloc: Global)
         ensures { self.new.held ≡ closed_up self.old.held }
     {
-        if self.open.count() > 0 {
+        if self.gathered.count() > 0 {
             self.close(Batch::empty(alloc));
         }
     }
@@ -145,6 +145,6 @@ impl HopQueue {
         ensures none { result ≡ false → self.now.held ≡ empty_queue }
         ensures some { self.now.held ≡ empty_queue → result ≡ false }
     {
-        self.open.count() > 0 || !self.closed.is_empty()
+        self.gathered.count() > 0 || !self.closed.is_empty()
     }
 }

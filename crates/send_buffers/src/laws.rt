@@ -45,7 +45,7 @@ pub fn a_batch_handed_out_came_first()
 /// Closing batches changes no letters and not their order, and leaves no batch open.
 pub fn a_flush_changes_no_letters()
     ensures letters { (queues : List Queue) → queued (map closed_up queues) ≡ queued queues }
-    ensures none_open { (queues : List Queue) (next : ℕ) → (queue_at (map closed_up queues) next).open ≡ [] }
+    ensures none_open { (queues : List Queue) (next : ℕ) → (queue_at (map closed_up queues) next).gathered ≡ [] }
 {}
 
 /// A batch that was handed out and steps back is where it was, and so are all others.

@@ -149,7 +149,7 @@ module _ {C : Type 0} (apply : Applies C) (start : C → C) (me : Rank C) (old :
       data_alone = moved.data_alone;
       rank = refl;
       sent = sent_unchanged;
-      same_open = λ next. moved.same_open next ∙ ap (λ qs. (queue_at qs next).open) are.queues;
+      same_open = λ next. moved.same_open next ∙ ap (λ qs. (queue_at qs next).gathered) are.queues;
       ran = ran_unchanged;
     }
 

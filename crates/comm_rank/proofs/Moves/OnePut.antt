@@ -47,7 +47,7 @@ pub handed_out_data : (before after : Buffered) (next : ℕ) (batch : List Lette
 handed_out_data before after next batch out all =
     let P : Letter → Type 0 = λ l. IsTrue (is_data l) in
     let here : AllByRecursion P (letters_in (queue_at before.queues next)) = all_at P before.queues next all in
-    let there : AllByRecursion P ((batch ++ flat (queue_at after.queues next).closed) ++ (queue_at after.queues next).open) = subst (λ queue. AllByRecursion P (letters_in queue)) out.oldest here in
+    let there : AllByRecursion P ((batch ++ flat (queue_at after.queues next).closed) ++ (queue_at after.queues next).gathered) = subst (λ queue. AllByRecursion P (letters_in queue)) out.oldest here in
     all_first P batch _ (all_first P (batch ++ flat (queue_at after.queues next).closed) _ there)
   where
     flat : List (List Letter) → List Letter
@@ -59,8 +59,8 @@ other_queue before after to batch out next other = ap (λ qs. queue_at qs next) 
 
 open_unchanged : (before after : Buffered) (to : ℕ) (batch : List Letter) → HandsOut before after to batch → SameOpen before.queues after.queues
 open_unchanged before after to batch out next = elim (cases_eq next to) [
-  | inl is ↦ ap (λ k. (queue_at after.queues k).open) is ∙ sym (ap (λ (queue : Queue). queue.open) out.oldest) ∙ ap (λ k. (queue_at before.queues k).open) (sym is)
-  | inr other ↦ ap (λ (queue : Queue). queue.open) (other_queue before after to batch out next other)
+  | inl is ↦ ap (λ k. (queue_at after.queues k).gathered) is ∙ sym (ap (λ (queue : Queue). queue.gathered) out.oldest) ∙ ap (λ k. (queue_at before.queues k).gathered) (sym is)
+  | inr other ↦ ap (λ (queue : Queue). queue.gathered) (other_queue before after to batch out next other)
 ]
 
 pub others_unchanged : (before after : Buffered) (to : ℕ) (batch : List Letter) → HandsOut before after to batch → OthersUnchanged to before.queues after.queues
@@ -246,7 +246,7 @@ moved_none before after old new held place log keeps =
       });
       sent_unchanged = λ d. ap (λ xs. sent here d xs (queued after.queues)) log ∙ ap (λ qs. sent here d (old.log here) (queued qs)) held;
       count_unchanged = omega (arith, ap (own_count here) log, ap (λ qs. sent_number here (queued qs)) held);
-      same_open = λ next. ap (λ qs. (queue_at qs next).open) held;
+      same_open = λ next. ap (λ qs. (queue_at qs next).gathered) held;
       place = place;
       keeps = keeps;
     }

@@ -18,7 +18,7 @@ all_of_each P (queue ∷ queues) each =
     all_append P (letters_in queue) (queued queues) (each zero (omega arith)) (all_of_each P queues (λ next within. each (suc next) (omega (arith, within))))
 
 -- no letter is held where no batch is, closed or open
-none_in : (queue : Queue) → queue.closed ≡ [] → queue.open ≡ [] → letters_in queue ≡ []
+none_in : (queue : Queue) → queue.closed ≡ [] → queue.gathered ≡ [] → letters_in queue ≡ []
 none_in queue closed none = rw (closed, none) refl
 
 pub none_held : (queues : List Queue) → ((next : ℕ) → next < length queues → NoneClosed queues next) → ((next : ℕ) → next < length queues → NoneOpen queues next) → queued queues ≡ []

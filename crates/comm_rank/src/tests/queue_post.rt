@@ -119,7 +119,7 @@ impl Post for QueuePost {
         let Ok(letters) = Letters::of(self.alloc, &batch) else {
             return Err(PutBack::NoMemory(batch));
         };
-        let Ok(copied) = letters.copy(self.alloc) else {
+        let Ok(copied) = letters.copy() else {
             return Err(PutBack::NoMemory(batch));
         };
         an_honest_put_keeps_a_sound_world();

@@ -19,7 +19,7 @@ module _ (held : Buffered) (queues : List Queue) (room : List ℕ) (next : ℕ) 
   queue_later queue is = record {
     closed = all_weaker (IsBatchFor held next) (IsBatchFor later next) queue.closed batch_later is.closed;
     share = is.share;
-    «open» = all_weaker (IsRouted held next) (IsRouted later next) queue.open routed_later is.open;
+    gathered = all_weaker (IsRouted held next) (IsRouted later next) queue.gathered routed_later is.gathered;
   }
 
 -- a batch for a next hop stays one

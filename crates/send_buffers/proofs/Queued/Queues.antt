@@ -14,15 +14,15 @@ joined-last batches batch = flat_map-append (λ (b : List Letter). b) batches (b
 
 -- an added letter is the last
 pub letters-added : (limit : ℕ) (queue : Queue) (l : Letter) → letters_in (added limit queue l) ≡ letters_in queue ++ l ∷ []
-letters-added limit queue l = by (may_join limit queue.open l)
+letters-added limit queue l = by (may_join limit queue.gathered l)
   where
-    by : (b : Bool) → letters_in (cond b (record { closed = queue.closed; «open» = queue.open ++ l ∷ [] }) (record { closed = queue.closed ++ queue.open ∷ []; «open» = l ∷ [] })) ≡ letters_in queue ++ l ∷ []
-    by true = sym (append_assoc (joined queue.closed) queue.open (l ∷ []))
-    by false = ap (λ xs. xs ++ l ∷ []) (joined-last queue.closed queue.open)
+    by : (b : Bool) → letters_in (cond b (record { closed = queue.closed; gathered = queue.gathered ++ l ∷ [] }) (record { closed = queue.closed ++ queue.gathered ∷ []; gathered = l ∷ [] })) ≡ letters_in queue ++ l ∷ []
+    by true = sym (append_assoc (joined queue.closed) queue.gathered (l ∷ []))
+    by false = ap (λ xs. xs ++ l ∷ []) (joined-last queue.closed queue.gathered)
 
 -- a batch that is the oldest is the first
 pub letters-given_back : (queue : Queue) (batch : List Letter) → letters_in (given_back queue batch) ≡ batch ++ letters_in queue
-letters-given_back queue batch = append_assoc batch (joined queue.closed) queue.open
+letters-given_back queue batch = append_assoc batch (joined queue.closed) queue.gathered
 
 letters-closed_with : (closed : List (List Letter)) (letters : List Letter) → letters_in (closed_with closed letters) ≡ joined closed ++ letters
 letters-closed_with closed [] = refl
@@ -30,7 +30,7 @@ letters-closed_with closed (first ∷ others) = append-nil _ ∙ joined-last clo
 
 -- closing a batch changes no letters
 pub letters-closed_up : (queue : Queue) → letters_in (closed_up queue) ≡ letters_in queue
-letters-closed_up queue = letters-closed_with queue.closed queue.open
+letters-closed_up queue = letters-closed_with queue.closed queue.gathered
 
 -- ---- their next hop
 
@@ -41,14 +41,14 @@ module _ (held : Buffered) (next : ℕ) where
 
   -- each letter of a queue has its next hop
   pub all_letters : (queue : Queue) → IsQueueFor held next queue → AllByRecursion (IsRouted held next) (letters_in queue)
-  all_letters queue is = all_append (IsRouted held next) (joined queue.closed) queue.open (all_joined queue.closed is.closed) is.open
+  all_letters queue is = all_append (IsRouted held next) (joined queue.closed) queue.gathered (all_joined queue.closed is.closed) is.gathered
 
   -- a queue without letters has no batch
   pub no_letters : (queue : Queue) → IsQueueFor held next queue → letters_in queue ≡ [] → queue ≡ empty_queue
-  no_letters queue is none = by queue.closed queue.open is.closed none
+  no_letters queue is none = by queue.closed queue.gathered is.closed none
     where
       by : (closed : List (List Letter)) (letters : List Letter) → AllByRecursion (IsBatchFor held next) closed → joined closed ++ letters ≡ [] →
-          record { closed = closed; «open» = letters } ≡ empty_queue
+          record { closed = closed; gathered = letters } ≡ empty_queue
       by [] [] each e = refl
       by [] (l ∷ letters) each e = absurd cc
       by ([] ∷ closed) letters each e = absurd (omega (arith, each.0.some))

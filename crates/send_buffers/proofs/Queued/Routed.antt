@@ -19,7 +19,7 @@ not_true false h = refl
 
 module _ (held : Buffered) (next : ℕ) where
   pub nothing_held : IsQueueFor held next empty_queue
-  nothing_held = record { closed = tt; share = inl (omega arith); «open» = tt }
+  nothing_held = record { closed = tt; share = inl (omega arith); gathered = tt }
 
   with_batch : (closed : List (List Letter)) (first : Letter) (others : List Letter) → AllByRecursion (IsBatchFor held next) closed → MayShare held.limit (first ∷ others) →
       AllByRecursion (IsRouted held next) (first ∷ others) → AllByRecursion (IsBatchFor held next) (closed ++ (first ∷ others) ∷ [])
@@ -27,39 +27,39 @@ module _ (held : Buffered) (next : ℕ) where
       all_append (IsBatchFor held next) closed ((first ∷ others) ∷ []) each (record { some = omega arith; share = share; each = routed }, tt)
 
   joined_or_next : (closed : List (List Letter)) (first : Letter) (others : List Letter) (l : Letter) (b : Bool) →
-      not (nat_lt held.limit (length (spelling ((first ∷ others) ++ l ∷ [])))) ≡ b → IsQueueFor held next (record { closed = closed; «open» = first ∷ others }) → IsRouted held next l →
-      IsQueueFor held next (cond b (record { closed = closed; «open» = (first ∷ others) ++ l ∷ [] }) (record { closed = closed ++ (first ∷ others) ∷ []; «open» = l ∷ [] }))
+      not (nat_lt held.limit (length (spelling ((first ∷ others) ++ l ∷ [])))) ≡ b → IsQueueFor held next (record { closed = closed; gathered = first ∷ others }) → IsRouted held next l →
+      IsQueueFor held next (cond b (record { closed = closed; gathered = (first ∷ others) ++ l ∷ [] }) (record { closed = closed ++ (first ∷ others) ∷ []; gathered = l ∷ [] }))
   joined_or_next closed first others l true fits is routed = record {
     closed = is.closed;
     share = inl (ltb-false held.limit (length (spelling ((first ∷ others) ++ l ∷ []))) (not_true _ fits));
-    «open» = all_append (IsRouted held next) (first ∷ others) (l ∷ []) is.open (routed, tt);
+    gathered = all_append (IsRouted held next) (first ∷ others) (l ∷ []) is.gathered (routed, tt);
   }
   joined_or_next closed first others l false full is routed = record {
-    closed = with_batch closed first others is.closed is.share is.open;
+    closed = with_batch closed first others is.closed is.share is.gathered;
     share = inr refl;
-    «open» = (routed, tt);
+    gathered = (routed, tt);
   }
 
-  after_add : (closed : List (List Letter)) (letters : List Letter) (l : Letter) → IsQueueFor held next (record { closed = closed; «open» = letters }) → IsRouted held next l →
-      IsQueueFor held next (added held.limit (record { closed = closed; «open» = letters }) l)
-  after_add closed [] l is routed = record { closed = is.closed; share = inr refl; «open» = (routed, tt) }
+  after_add : (closed : List (List Letter)) (letters : List Letter) (l : Letter) → IsQueueFor held next (record { closed = closed; gathered = letters }) → IsRouted held next l →
+      IsQueueFor held next (added held.limit (record { closed = closed; gathered = letters }) l)
+  after_add closed [] l is routed = record { closed = is.closed; share = inr refl; gathered = (routed, tt) }
   after_add closed (first ∷ others) l is routed = joined_or_next closed first others l (may_join held.limit (first ∷ others) l) refl is routed
 
   pub one_added : (queue : Queue) (l : Letter) → IsQueueFor held next queue → IsRouted held next l → IsQueueFor held next (added held.limit queue l)
-  one_added queue l is routed = after_add queue.closed queue.open l is routed
+  one_added queue l is routed = after_add queue.closed queue.gathered l is routed
 
-  after_close : (closed : List (List Letter)) (letters : List Letter) → IsQueueFor held next (record { closed = closed; «open» = letters }) → IsQueueFor held next (closed_with closed letters)
+  after_close : (closed : List (List Letter)) (letters : List Letter) → IsQueueFor held next (record { closed = closed; gathered = letters }) → IsQueueFor held next (closed_with closed letters)
   after_close closed [] is = is
-  after_close closed (first ∷ others) is = record { closed = with_batch closed first others is.closed is.share is.open; share = inl (omega arith); «open» = tt }
+  after_close closed (first ∷ others) is = record { closed = with_batch closed first others is.closed is.share is.gathered; share = inl (omega arith); gathered = tt }
 
   pub one_closed : (queue : Queue) → IsQueueFor held next queue → IsQueueFor held next (closed_up queue)
-  one_closed queue is = after_close queue.closed queue.open is
+  one_closed queue is = after_close queue.closed queue.gathered is
 
   pub one_back : (queue : Queue) (batch : List Letter) → IsQueueFor held next queue → IsBatchFor held next batch → IsQueueFor held next (given_back queue batch)
-  one_back queue batch is routed = record { closed = (routed, is.closed); share = is.share; «open» = is.open }
+  one_back queue batch is routed = record { closed = (routed, is.closed); share = is.share; gathered = is.gathered }
 
   pub one_out : (queue : Queue) (batch : List Letter) → IsQueueFor held next (given_back queue batch) → IsQueueFor held next queue
-  one_out queue batch is = record { closed = is.closed.1; share = is.share; «open» = is.open }
+  one_out queue batch is = record { closed = is.closed.1; share = is.share; gathered = is.gathered }
 
   pub oldest : (queue : Queue) (batch : List Letter) → IsQueueFor held next (given_back queue batch) → IsBatchFor held next batch
   oldest queue batch is = is.closed.0

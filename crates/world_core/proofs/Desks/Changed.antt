@@ -39,16 +39,16 @@ noted ds from to letters x d within log inbox = (
   field_kept (λ desk. desk.inbox) ds from x d within inbox,
 )
 
-module _ (from to : ℕ) (letters copied : List Letter) where
+module _ (from to : ℕ) (letters : List Letter) where
   abbrev with_put : List (List Entry) → List (List Entry)
   with_put logs = set logs from (get_or logs from [] ++ Put to letters ∷ [])
 
   abbrev with_batch : List (List (List (List Letter))) → List (List (List (List Letter)))
-  with_batch inboxes = set inboxes to (set (get_or inboxes to []) from (get_or (get_or inboxes to []) from [] ++ copied ∷ []))
+  with_batch inboxes = set inboxes to (set (get_or inboxes to []) from (get_or (get_or inboxes to []) from [] ++ letters ∷ []))
 
   -- memory is reserved, a batch goes into an inbox, and its put is appended
   pub put_between : (a b c d : List Desk) → SameDesks a b → (logs_of c ≡ logs_of b) × (inboxes_of c ≡ with_batch (inboxes_of b)) →
-      (logs_of d ≡ with_put (logs_of c)) × (inboxes_of d ≡ inboxes_of c) → PutBetween from to letters copied a d
+      (logs_of d ≡ with_put (logs_of c)) × (inboxes_of d ≡ inboxes_of c) → PutBetween from to letters a d
   put_between a b c d made waits noted = record {
     logs = noted.0 ∙ ap with_put (waits.0 ∙ made.logs);
     inboxes = noted.1 ∙ waits.1 ∙ ap with_batch made.inboxes;

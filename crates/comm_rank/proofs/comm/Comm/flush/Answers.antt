@@ -17,7 +17,7 @@ returns-clause-closed g c =
     let is : held ≡ map closed_up i.held.queues = c.flush_all.ensures.closed in
     subst (λ (m : Rank g.row.H.Denot). HasFlushed m (record me { held = held })) c.self.view_is (record {
       closed = is;
-      none_open = λ next. ap (λ queues. (queue_at queues next).open) is ∙ closed_up-open i.held.queues next;
+      none_open = λ next. ap (λ queues. (queue_at queues next).gathered) is ∙ closed_up-open i.held.queues next;
       same_letters = ap queued is ∙ queued-closed_up i.held.queues;
       rank = refl;
     })

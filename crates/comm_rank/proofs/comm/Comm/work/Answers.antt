@@ -61,7 +61,7 @@ returns-clause-ended g c =
       puts_to_each = λ to within. met_then a b d takes.fulls to new.held (put.none_or_full to (omega (arith, within, ranks)));
       full = full_then a b d takes.fulls old.layout.ranks mid.layout.ranks ranks new.held _ put.first_full;
       none_held = λ full none gathered.
-          let still : (next : ℕ) → (queue_at new.held next).open ≡ (queue_at old.held next).open = λ next. put.out.same_open next ∙ has.taken.same_open none next in
+          let still : (next : ℕ) → (queue_at new.held next).gathered ≡ (queue_at old.held next).gathered = λ next. put.out.same_open next ∙ has.taken.same_open none next in
           put.none_held full (λ next within. still next ∙ gathered next (omega (arith, within, ranks)));
       stops = λ rank. puts.stops rank ∙ takes.work.stops rank;
       halts = puts.halts ∙ takes.work.halts;
