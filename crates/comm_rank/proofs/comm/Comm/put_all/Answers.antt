@@ -9,7 +9,6 @@ use Rattle.world_core.specs.Rules.{IsHonest}
 use Rattle.comm_rank.specs.Agrees.{Belongs, MayTurn}
 use Rattle.comm_rank.specs.Rank.{Rank, local_of}
 use Rattle.comm_rank.specs.Moves.{HasPutAll, PutAllFailed}
-use Rattle.comm_rank.specs.Store.{AreOf}
 use Rattle.comm_rank.specs.Turns.{PutsKeep}
 use Rattle.comm_rank.proofs.Agrees.AfterPuts.{AreHeldBy, belongs_after, has_put_all, honest_after, may_put, may_turn_after, moved_each, put_all_failed, puts_keep_after}
 use Rattle.comm_rank.proofs.comm.Comm.put_all.Goals as goal
