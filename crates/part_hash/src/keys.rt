@@ -1,11 +1,11 @@
-//! Which rank owns a key.
+//! The hash of a key, and the rank that owns the key.
 ghost use Rattle.std.specs.Prelude.{◌≡◌, ◌<◌, ◌≤◌};
-ghost use Rattle.counting_set.specs.Owner as spec;
+ghost use Rattle.part_hash.specs.Owner as spec;
 
 /// The hash of no bytes.
 const OFFSET_BASIS: u64 = 14_695_981_039_346_656_037;
 
-/// The factor of each step of the hash.
+/// The factor by which each byte multiplies the hash.
 const PRIME: u64 = 1_099_511_628_211;
 
 // The hash after one byte more.
