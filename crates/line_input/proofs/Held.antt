@@ -1,0 +1,2 @@
+pub mod IsTooLong
+pub mod StartsWithLine

@@ -1,0 +1,4 @@
+pub mod Examples
+pub mod FirstTooLong
+pub mod RawLines
+pub mod TextOf

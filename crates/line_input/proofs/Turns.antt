@@ -1,0 +1,2 @@
+pub mod GaveLine
+pub mod ToCome
