@@ -1,1 +1,1 @@
-mod Returned
+pub mod Returned

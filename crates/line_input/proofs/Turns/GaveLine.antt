@@ -8,7 +8,7 @@ use Rattle.line_input.specs.Held.{StartsWithLine, AreLastLine}
 use Rattle.rising_counts.specs.Rising.{next_count}
 use Rattle.line_input.specs.Limits.{max_piece}
 use Rattle.line_input.specs.Reading.{Reading}
-use Rattle.line_input.specs.Turns.{to_come, lines_to_come, FirstTaken, GaveLine, RawLineTaken, Turned}
+use Rattle.line_input.specs.Turns.{to_come, lines_to_come, FirstTaken, RawLineTaken, Turned}
 use Rattle.line_input.specs.declared.line_reader.Got.{Got}
 use Rattle.line_input.specs.declared.line_reader.Got.TheVariants.{Line}
 use Rattle.line_input.proofs.Taken.LinesTaken.{line_cut, text_cut}

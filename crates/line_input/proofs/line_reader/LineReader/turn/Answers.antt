@@ -1,4 +1,4 @@
-use Rattle.std.proofs.Common.{rules, [], ◌++◌, length, ap, subst, sym, ◌∙◌, arith}
+use Rattle.std.proofs.Common.{rules, [], ◌++◌, ap, subst, sym, ◌∙◌, arith}
 use Rattle.std.proofs.lemmas.List.{append-nil}
 use Rattle.rising_counts.specs.Rising.{next_count}
 use Rattle.std.proofs.lemmas.Grind.{common_steps}
@@ -54,3 +54,68 @@ returns-in-Ok-Some-clause-turned g c =
     (ap (λ (r : Reading). r.given) c.give-in-Ok-Some.ensures.counted ∙ ap (λ (r : Reading). next_count r.given) c.self.view_is)
     gave.bound
     (line_read _ _ _ _ (g.S.Source.left c.args.src.now) (g.S.Source.left c.read.new.src) c.in-Ok.ensures.piece.taken gave.line)
+
+-- no line is whole yet
+
+pub returns-in-Ok-None-clause-turned : goal.returns-in-Ok-None-clause-turned
+returns-in-Ok-None-clause-turned g c =
+    let before = g.S.Source.left c.args.src.now in
+    let now = g.S.Source.left c.read.new.src in
+    let unchanged = rw c.in_default.is at c.in_ok-line.ensures.unchanged in
+    let same = c.read.ensures.same ∙ c.gather.ensures.same ∙ ap held_in unchanged ∙ ap (λ (r : Reading). r.held) c.self.view_is in
+    let partial = rw c.in-Ok-None.field-0-is at c.in-Ok-None.ensures.none in
+    record {
+      nothing_lost = record {
+        to_come_unchanged = ap (λ h. to_come h now) partial.all
+            ∙ to_come-read (held_in c.read.new.self) _ before now c.in-Ok.ensures.piece.taken
+            ∙ ap (λ h. to_come h before) same;
+        count_unchanged = search rules;
+      };
+      more = grind (arith, common_steps);
+      partial = partial.partial;
+      short = partial.short;
+    }
+
+pub returns-in-Ok-None-clause-each_turn : goal.returns-in-Ok-None-clause-each_turn
+returns-in-Ok-None-clause-each_turn g c = record {
+  end_if_nothing_to_come = grind (arith, common_steps);
+  faults_unchanged = search rules;
+  never_falls = search rules;
+  done = search rules;
+  one_piece = search rules;
+  exposed = search rules;
+}
+
+-- the line is too long
+
+pub returns-in-Err-clause-turned : goal.returns-in-Err-clause-turned
+returns-in-Err-clause-turned g c =
+    let before = g.S.Source.left c.args.src.now in
+    let now = g.S.Source.left c.read.new.src in
+    let unchanged = rw c.in_default.is at c.in_ok-line.ensures.unchanged in
+    let same = c.read.ensures.same ∙ c.gather.ensures.same ∙ ap held_in unchanged ∙ ap (λ (r : Reading). r.held) c.self.view_is in
+    let found = c.in-Err.ensures.too_long in
+    record {
+      nothing_lost = record {
+        to_come_unchanged = ap (λ h. to_come h now) found.all
+            ∙ to_come-read (held_in c.read.new.self) _ before now c.in-Ok.ensures.piece.taken
+            ∙ ap (λ h. to_come h before) same;
+        count_unchanged = search rules;
+      };
+      held_too_long = subst StartsTooLong (append-nil (held_in c.take_piece.new.self)) (found.too_long []);
+      to_come_too_long = rw (sym same)
+          (too_long_to_come (held_in c.read.new.self) _ before now c.in-Ok.ensures.piece.taken
+          (λ rest. subst (λ h. StartsTooLong (h ++ rest)) found.all (found.too_long rest)));
+      by_a_piece = search rules;
+      number_is = search rules;
+    }
+
+pub returns-in-Err-clause-each_turn : goal.returns-in-Err-clause-each_turn
+returns-in-Err-clause-each_turn g c = record {
+  end_if_nothing_to_come = λ nothing. none_too_long _ nothing (returns-in-Err-clause-turned g c).to_come_too_long;
+  faults_unchanged = search rules;
+  never_falls = search rules;
+  done = search rules;
+  one_piece = search rules;
+  exposed = search rules;
+}

@@ -64,7 +64,7 @@ returns-clause-line c =
     let empty = slice_range-empty before.buffer.items before.start before.end (omega arith) in
     let grown = pushed (take n piece) refl c.unwrap.ensures c.extend_from_slice.ensures.items in
     let is_piece = ap (take c.args.count) (sym c.deref.ensures.value) in
-    let line = joined_line before.carry.items (take n piece) (drop (n + 1) piece) c.take_carry.result.items
+    let line = joined_line before.carry.items (take n piece) (drop (n + 1) piece) c.take_carry.result
     c.requires.open.partial
     (subst (λ m. LacksLf (take m piece)) (sym c.unwrap_or-length.ensures) partial)
     (omega (arith, length-take-le n piece (omega arith)))
