@@ -1,6 +1,9 @@
 ghost use Rattle.std.specs.Prelude.{None};
 
-use crate::{Got, LineFault, LineReader, LineWhy};
+use crate::{
+    Got, LineFault, LineReader, LineWhy, lines_end_at_lf, one_cr_is_dropped,
+    the_first_line_that_is_too_long, the_limits_are_these_numbers, turns_return_the_lines_in_order,
+};
 use std::alloc::Global;
 use std::process::Abort;
 use std::test::Fail;
@@ -233,4 +236,13 @@ fn lines_over_the_end_of_a_piece_are_whole(rt: HostRuntime) -> Result<(), Fail> 
 #[test]
 fn the_reason_is_that_the_line_is_too_long(rt: HostRuntime) {
     assert_eq!(rt; LineWhy::TooLong.text(), "line too long");
+}
+
+#[test]
+fn the_laws_can_be_cited() {
+    lines_end_at_lf();
+    one_cr_is_dropped();
+    the_first_line_that_is_too_long();
+    the_limits_are_these_numbers();
+    turns_return_the_lines_in_order::<Pieced>();
 }

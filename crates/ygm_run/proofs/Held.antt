@@ -1,2 +1,0 @@
-pub mod IsTooLong
-pub mod StartsWithLine

@@ -1,4 +1,0 @@
-pub mod Examples
-pub mod FirstTooLong
-pub mod RawLines
-pub mod TextOf

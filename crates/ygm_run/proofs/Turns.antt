@@ -1,2 +1,0 @@
-pub mod GaveLine
-pub mod ToCome
