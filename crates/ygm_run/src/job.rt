@@ -12,10 +12,10 @@ ghost use Rattle.counting_set.specs.Counting.{counting_apply};
 ghost use Rattle.ygm_run.specs.Inputs.{IsRest};
 ghost use Rattle.ygm_run.specs.RankJobs.{FullAtLine, HasGoneOn, HasPolledOnce, HasReadOn, InJob, JobState, JobTurned, KeepsJob, fresh_job, left_in, source_after};
 
-use crate::line_reader::{Got, LineFault, LineReader};
-use crate::status::{InputFault, LineWhy};
+use crate::status::InputFault;
 use comm_rank::{Comm, CommFault};
 use counting_set::{Counting, count_insert};
+use line_input::{Got, LineFault, LineReader, LineWhy};
 use std::alloc::{AllocError, Global};
 use std::marker::Model;
 use term_barrier::{Barrier, Polled};

@@ -6,8 +6,9 @@ ghost use Rattle.ygm_run.specs.Inputs.{AreRests};
 ghost use Rattle.ygm_run.specs.JobEnds.{HasRun, JobStops, fault_of};
 
 use crate::ranks::Ranks;
-use crate::status::{InputFault, LineWhy};
+use crate::status::InputFault;
 use counting_set::Counting;
+use line_input::LineWhy;
 use msg_codec::AtLimit;
 use std::alloc::{AllocError, Global};
 use std::sync::Wait;

@@ -1,14 +1,15 @@
 //! Whole runs over objects in memory: that they succeed with ample memory, and worked examples.
+use crate::bad_line_laws::the_first_bad_line;
 use crate::ending_laws::only_memory_can_run_out;
-use crate::limit_laws::the_limits_are_these_numbers;
-use crate::line_laws::{lines_end_at_lf, one_cr_is_dropped, the_first_bad_line};
+use crate::limit_laws::the_limit_of_ranks_is_that_of_a_layout;
 use crate::run;
 use crate::run_job::{JobFault, JobKind, Ran, Settings, run_job};
-use crate::status::{Ended, LineWhy, Status};
+use crate::status::{Ended, Status};
 use crate::tally_text::{each_line_has_its_row, one_table, order_is_free, text_of_shards};
 use crate::verdict_laws::the_verdict_is_the_lowest_bad_line_or_the_text;
 use crate::words::UsageKind;
 use crate::words_laws::{the_refusal_is_the_first_that_holds, words_that_are_accepted};
+use line_input::LineWhy;
 use std::alloc::{AllocError, Global};
 use std::process::Abort;
 use std::sync::Wait;
@@ -402,13 +403,11 @@ fn notes_that_fail_change_no_status(rt: HostRuntime) -> Result<(), Fail> {
 #[test]
 fn the_laws_can_be_cited() {
     each_line_has_its_row();
-    lines_end_at_lf();
-    one_cr_is_dropped();
     one_table();
     only_memory_can_run_out::<MemSource>();
     order_is_free();
     the_first_bad_line();
-    the_limits_are_these_numbers();
+    the_limit_of_ranks_is_that_of_a_layout();
     the_refusal_is_the_first_that_holds();
     the_verdict_is_the_lowest_bad_line_or_the_text();
     words_that_are_accepted();

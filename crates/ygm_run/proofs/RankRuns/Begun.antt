@@ -20,8 +20,8 @@ use Rattle.ygm_run.specs.declared.ranks.RankRun.{RankRun}
 use Rattle.ygm_run.specs.RankJobs.{InJob, JobState, KeepsJob, faults_in, fresh_job, left_in}
 use Rattle.ygm_run.specs.RankRuns.{AreFresh, AreRuns, IsByEnd, IsFreshRun, IsRun}
 use Rattle.ygm_run.specs.TallyRun.{tally_letters}
-use Rattle.ygm_run.proofs.ReadLines.LinesTaken.{lines_none}
-use Rattle.ygm_run.proofs.Turns.ToCome.{taken_none}
+use Rattle.line_input.proofs.Taken.LinesTaken.{lines_none}
+use Rattle.line_input.proofs.Turns.ToCome.{taken_none}
 
 -- without lines there are no own letters
 none_own : (ranks here phase to : ℕ) → tally_letters ranks here [] phase to ≡ []

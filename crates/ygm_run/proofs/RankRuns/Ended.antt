@@ -31,15 +31,16 @@ use Rattle.ygm_run.specs.BadLines.{tally_wrong}
 use Rattle.ygm_run.specs.Inputs.{AllRead, IsRead}
 use Rattle.ygm_run.specs.Job.{AreExposed, lines_of_each}
 use Rattle.ygm_run.specs.JobEnds.{HasRun}
-use Rattle.ygm_run.specs.Lines.{lines_of, text_of}
+use Rattle.line_input.specs.Lines.{lines_of, text_of}
 use Rattle.ygm_run.specs.RankJobs.{HasFinished, faults_in, fresh_job, left_in}
 use Rattle.ygm_run.specs.RankRuns.{AllWell, AreRuns, IsByEnd, NoFaults, NoneStopped}
-use Rattle.ygm_run.specs.ReadLines.{EndedWith, LinesTaken}
+use Rattle.line_input.specs.Taken.{LinesTaken}
+use Rattle.ygm_run.specs.ReadLines.{EndedWith}
 use Rattle.ygm_run.specs.TallyRun.{AreFolds, IsTallyRun, tally_letters, tally_letters_of}
-use Rattle.ygm_run.specs.Turns.{to_come}
+use Rattle.line_input.specs.Turns.{to_come}
 use Rattle.ygm_run.proofs.Ending.Follows.{item_at}
 use Rattle.ygm_run.proofs.Inputs.IsRead.{was_read}
-use Rattle.ygm_run.proofs.ReadLines.LinesTaken.{all_taken}
+use Rattle.ygm_run.proofs.ReadLines.AllTaken.{all_taken}
 use Rattle.ygm_run.proofs.TallyRun.Run.{counting_is_silent}
 
 -- what holds of some value for each rank, holds of those of one function
