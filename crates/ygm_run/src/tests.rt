@@ -142,6 +142,7 @@ fn a_rank_without_a_file_reads_nothing(rt: HostRuntime) -> Result<(), Fail> {
         kind: JobKind::Tally,
         layout: Layout::new(3, 1)?,
         scheme: Scheme::Direct,
+        buffer: 64,
     };
     let sources = vec![in alloc; MemSource::new(alloc, b"b\na\nb\n", &[])?]?;
     let Ran { outcome, sources } = run_job(&rt, alloc, &settings, sources);
@@ -163,6 +164,7 @@ fn a_job_ends_with_the_fault_of_an_input(rt: HostRuntime) -> Result<(), Fail> {
         kind: JobKind::Tally,
         layout: Layout::new(2, 1)?,
         scheme: Scheme::Direct,
+        buffer: 64,
     };
     let sources = vec![in alloc; MemSource::new(alloc, b"b\na\nb\n", &[0])?]?;
     let Ran { outcome, sources } = run_job(&rt, alloc, &settings, sources);
@@ -187,6 +189,30 @@ fn a_layout_changes_no_text(rt: HostRuntime) -> Result<(), Fail> {
     assert_eq!(rt; outcome.ended.status, Status::Done);
     assert_eq!(rt; outcome.ended.sources.len(), 2);
     assert_eq!(rt; outcome.out.bytes(), b"2\ta\n3\tb\n".as_slice());
+    Ok(())
+}
+
+// The worked run has its text by this scheme, over two nodes of two cores, with batches of at most so many bytes.
+fn has_text_by(
+    rt: &(impl Abort + Wait + AllocGlobal),
+    scheme: &str,
+    buffer: &str,
+) -> Result<(), Fail> {
+    let mut files = two_files(rt.alloc(), &[])?;
+    let words = [
+        "tally", "--ranks", "4", "--cores", "2", "--scheme", scheme, "--buffer", buffer, "f0", "f1",
+    ];
+    let outcome = run_over(rt, &mut files, &words)?;
+    assert_eq!(rt; outcome.out.bytes(), b"2\ta\n3\tb\n".as_slice());
+    Ok(())
+}
+
+#[test]
+fn routes_and_buffers_change_no_text(rt: HostRuntime) -> Result<(), Fail> {
+    for scheme in ["none", "nr", "nlnr"] {
+        has_text_by(&rt, scheme, "64")?;
+        has_text_by(&rt, scheme, "65536")?;
+    }
     Ok(())
 }
 

@@ -7,7 +7,6 @@ use Rattle.std.proofs.lemmas.Option.{slice_get-get_or, slice_get-map, slice_get_
 use Rattle.list_facts.proofs.Fields.{field_at}
 use Rattle.msg_codec.specs.declared.letter.Letter.{Letter}
 use Rattle.ygm_io.specs.Content.{ExposedBytes}
-use Rattle.ygm_route.specs.declared.scheme.Scheme.TheVariants.{Direct}
 use Rattle.ygm_route.specs.Layout.{Shape, max_ranks}
 use Rattle.world_core.specs.declared.entry.Entry.{Entry}
 use Rattle.world_core.specs.Local.{local_rank}
@@ -121,7 +120,7 @@ module _ {S : Type 0} (left : S → ExposedBytes) (faults : S → ℕ) (layout :
 
       -- a rank's job, and any one past the last rank
       abbrev run_at : ℕ → RankRun
-      run_at rank = get_or runs rank (record { job = fresh_job; comm = fresh_rank layout Direct 0 0 []; barrier = fresh_barrier layout 0 0; ended = None })
+      run_at rank = get_or runs rank (record { job = fresh_job; comm = fresh_rank layout links.world.scheme 0 0 []; barrier = fresh_barrier layout 0 0; ended = None })
 
       all_ranks : length runs ≡ ranks
       all_ranks = are.all ∙ sym (ap (λ (l : Shape). l.ranks) are.same_world)
