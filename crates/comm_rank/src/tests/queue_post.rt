@@ -3,7 +3,7 @@ ghost use Rattle.std.specs.Prelude.{◌≡◌, ◌^◌, IfOk};
 ghost use Rattle.world_core.specs.Plain.{fresh_links};
 ghost use Rattle.ygm_route.specs.declared.scheme.Scheme.TheVariants.{Direct};
 
-use super::{ASK, Echo, NOTE, TWO_LETTERS, boxed, rank_of, same, send_by, turn_of};
+use super::{ASK, Echo, LONG, NOTE, TWO_LETTERS, boxed, flush_by, rank_of, same, send_by, turn_of};
 use crate::{Comm, CommFault, Handler, Turn};
 use msg_codec::{Batch, Letters};
 use std::alloc::Global;
@@ -16,7 +16,7 @@ use world_core::laws::{
     taking_the_next_batch_keeps_a_sound_world,
 };
 use world_core::{Entry, Limits, Post, PutBack};
-use ygm_route::Layout;
+use ygm_route::{Layout, Scheme};
 
 // A batch in the queue, and its letters, for the log once it is taken.
 #[derive(Drop)]
@@ -176,7 +176,7 @@ impl<H: Handler, P: Post + Drop> Model for Lone<H, P> {
 // A rank that has a queue for its post.
 fn lone_of(alloc: Global, limits: Limits) -> Result<Lone<Echo, QueuePost>, Fail> {
     let post = boxed(alloc, QueuePost::new(alloc)?)?;
-    let comm = rank_of(alloc, post.layout(), 0, limits)?;
+    let comm = rank_of(alloc, post.layout(), Scheme::Direct, 0, limits)?;
     Ok(Lone {
         alloc,
         comm: boxed(alloc, comm)?,
@@ -185,10 +185,10 @@ fn lone_of(alloc: Global, limits: Limits) -> Result<Lone<Echo, QueuePost>, Fail>
 }
 
 impl<H: Handler, P: Post + Drop> Lone<H, P> {
-    // It sends itself a letter.
+    // It sends itself a letter, in a batch of its own.
     fn send(&mut self, tag: u8, first: u8) -> Result<(), Fail> {
         let here = self.comm.here();
-        send_by(self.alloc, &mut *self.comm, here, tag, first)??;
+        send_by(self.alloc, &mut *self.comm, here, tag, &[first; LONG])??;
         Ok(())
     }
 
@@ -199,7 +199,13 @@ impl<H: Handler, P: Post + Drop> Lone<H, P> {
         Ok(turn_of(&mut *self.comm, &mut *self.post))
     }
 
+    fn flush(&mut self) -> Result<(), Fail> {
+        flush_by(&mut *self.comm)
+    }
+
+    // A turn that puts all that the rank held before.
     fn turn(&mut self) -> Result<Turn, Fail> {
+        self.flush()?;
         Ok(self.try_turn()??)
     }
 

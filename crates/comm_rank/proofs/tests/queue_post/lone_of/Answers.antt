@@ -14,4 +14,4 @@ invariant_of-result c =
     let post : c.in_ok-post.post.value ≡ fresh_links layout Direct 2 (2 ^ 64) = c.in_ok-post.ensures ∙ c.in_ok-new.ensures in
     let same : c.layout.result ≡ layout = c.layout.ensures ∙ ap (λ (p : Plain). p.world.layout) (c.deref.ensures ∙ post) in
     let comm : c.in_ok-boxed.field-0.value ≡ fresh_rank layout Direct 0 most [] = c.in_ok-boxed.ensures ∙ c.in_ok-comm.ensures.made ∙ ap (λ (l : Shape). fresh_rank l Direct 0 most []) same in
-    λ going. rw (post, comm) (belongs_new _ _ layout most 2 (2 ^ 64) [] refl 0 within, tt)
+    λ going. rw (post, comm) (belongs_new _ _ layout Direct most 2 (2 ^ 64) [] refl 0 within, tt)
