@@ -168,8 +168,7 @@ fn a_count_stays_at_the_largest_value_of_its_type(rt: HostRuntime) -> Result<(),
 // An add of one `x`.
 const X_ONCE: [u8; 13] = [1, 0, 0, 0, 120, 1, 0, 0, 0, 0, 0, 0, 0];
 
-// The number of items after an add with another tag, an add without its last byte and an empty one, how many letters
-// the handler sent then, and the count after the add itself.
+// An add with another tag, one without its last byte and an empty one add nothing and send nothing. The add itself adds.
 fn others(rt: &impl Abort, alloc: Global, counting: &mut Counting) -> Result<(), Fail> {
     let sent = [
         run(alloc, counting, 2, &X_ONCE)?,

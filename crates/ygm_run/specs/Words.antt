@@ -1,5 +1,5 @@
 -- What the program's words ask for, and why they are refused. A word is the list of its bytes.
-use Rattle.std.specs.Prelude.{◌≡◌, ◌≤◌, ℕ, ◌+◌, ◌-◌, ◌*◌, ◌%◌, Bool, false, List, [], ◌∷◌, Option, None, Some, Result, Ok, Err, String, bytes_eq, codes, find, length, map, nat_eq, nat_lt, not, ◌==◌, ◌||◌, option_and_then, string_bytes, unwrap_or, if◌then◌else◌}
+use Rattle.std.specs.Prelude.{◌≤◌, ℕ, ◌+◌, ◌-◌, ◌*◌, ◌%◌, Bool, false, List, [], ◌∷◌, Option, None, Some, Result, Ok, Err, String, bytes_eq, codes, find, length, map, nat_eq, nat_lt, not, ◌==◌, ◌||◌, option_and_then, string_bytes, unwrap_or, if◌then◌else◌}
 use Rattle.std.specs.Char.{is_ascii_digit}
 use Rattle.std.specs.List.{list_any, starts_with}
 use Rattle.std.specs.Option.{is_none, is_some}

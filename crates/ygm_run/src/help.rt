@@ -28,11 +28,11 @@ Options, each at most once, before the files:
                  (default: 1)
   --scheme NAME  how letters travel between ranks (default: none):
                  none  straight to the destination
-                 nr    to the sender's core of the other node, then within that node
-                 nlnr  within the node to the core that serves the other node, from
-                       there to that node, then within it
-  --buffer N     the most bytes of a batch of letters, from 64 to 65536, unless it
-                 is one letter (default: 16384)
+                 nr    to the sender's core of the other node, then within it
+                 nlnr  to the core of the sender's node that serves the other
+                       node, from there to that node, then within it
+  --buffer N     most bytes of a batch of letters, 64 to 65536; a letter with more
+                 travels alone (default: 16384)
   --             ends the options
 
 Exit status:

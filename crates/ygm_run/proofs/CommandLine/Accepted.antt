@@ -1,6 +1,6 @@
 -- What holds of a command line of which no refusal holds.
 use Rattle.std.proofs.Common.{◌≡◌, ℕ, zero, suc, ◌+◌, ◌%◌, ◌<◌, ◌≤◌, ◌||◌, Bool, true, false, cond, not, List, [], ◌∷◌, Option, None, Some, Contains, codes, drop, find, get_or, length, option_and_then, refl, ap, sym, ◌∙◌, subst, arith}
-use Rattle.std.specs.Prelude.{bytes_eq, nat_eq, unwrap_or}
+use Rattle.std.specs.Prelude.{nat_eq, unwrap_or}
 use Rattle.std.proofs.lemmas.Bool.{eqb-false, eqb-true, ltb-false}
 use Rattle.ygm_route.specs.Layout.{IsLayout, max_ranks}
 use Rattle.send_buffers.specs.Limits.{max_buffer, min_buffer}
