@@ -1,16 +1,16 @@
 //! Adding to a counting set from any rank.
 ghost use Rattle.std.specs.Prelude.{◌≡◌, ◌≤◌, List, false, length, IfErr, IsErr, OnOk, OnErr};
+ghost use Rattle.part_hash.specs.Owner as spec;
 ghost use Rattle.world_core.specs.declared.entry.Entry.{Entry};
 ghost use Rattle.comm_rank.specs.Agrees.{Agrees};
 ghost use Rattle.comm_rank.specs.Fault.{IsFullAt, NeverStopped};
 ghost use Rattle.comm_rank.specs.Rank.{HasSent};
 ghost use Rattle.counting_set.specs.Counting.{add_letter};
-ghost use Rattle.counting_set.specs.Owner as spec;
 
 use crate::counting::{ADD, MAX_ITEM};
 use crate::item_count::item_count_body;
-use crate::owner::owner_of_key;
 use comm_rank::{Comm, CommFault, Handler};
+use part_hash::owner_of_key;
 use std::alloc::Global;
 
 /// Adds one of an item, by a letter to the rank that owns it. At `CommFault::CountFull` the rank has sent as many

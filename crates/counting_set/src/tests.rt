@@ -221,29 +221,6 @@ fn a_body_over_the_limit_adds_nothing(rt: HostRuntime) -> Result<(), Fail> {
     around_the_limit(&rt, rt.alloc(), &mut *empty(rt.alloc())?)
 }
 
-#[test]
-fn the_published_hashes(rt: HostRuntime) {
-    same(
-        &rt,
-        [fnv(b""), fnv(b"a"), fnv(b"foobar")],
-        [
-            0xcbf2_9ce4_8422_2325,
-            0xaf63_dc4c_8601_ec8c,
-            0x8594_4171_f739_67e8,
-        ],
-    );
-}
-
-#[test]
-fn a_key_belongs_to_its_hash_modulo_the_ranks(rt: HostRuntime) {
-    let owners = [
-        owner_of_key(b"a", 4),
-        owner_of_key(b"", 2),
-        owner_of_key(b"foobar", 1),
-    ];
-    same(&rt, owners, [0, 1, 0]);
-}
-
 // A rank that has sent and run nothing.
 fn rank_of(
     alloc: Global,

@@ -12,7 +12,7 @@ use Rattle.comm_rank.specs.Rank.{HasSent, Rank}
 use Rattle.term_barrier.specs.Barriers.{BarrierState}
 use Rattle.term_barrier.specs.Carried.{Carries}
 use Rattle.counting_set.specs.Counting.{Counts, add_letter, counting_apply}
-use Rattle.counting_set.specs.Owner.{owner_of_key}
+use Rattle.part_hash.specs.Owner.{owner_of_key}
 use Rattle.ygm_run.specs.declared.job.Step.{Step}
 use Rattle.ygm_run.specs.declared.job.Step.TheVariants.{Going, Finished}
 use Rattle.ygm_run.specs.declared.status.InputFault.{InputFault}

@@ -15,7 +15,7 @@ use Rattle.comm_rank.specs.Agrees.{Agrees}
 use Rattle.comm_rank.specs.Fault.{IfCountFull}
 use Rattle.comm_rank.specs.Rank.{HasSent, Rank}
 use Rattle.counting_set.specs.Counting.{Counts, add_letter, counting_apply}
-use Rattle.counting_set.specs.Owner.{owner_of_key}
+use Rattle.part_hash.specs.Owner.{owner_of_key}
 use Rattle.term_barrier.specs.Account.{with_more}
 use Rattle.term_barrier.specs.Barriers.{BarrierState}
 use Rattle.term_barrier.specs.Carried.{Carries}

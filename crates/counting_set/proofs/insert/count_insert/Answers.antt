@@ -1,6 +1,6 @@
 use Rattle.std.proofs.Common.{◌≡◌, OnOk, sym, ap, ◌∙◌, subst}
 use Rattle.comm_rank.specs.Rank.{HasSent}
-use Rattle.counting_set.specs.Owner as spec
+use Rattle.part_hash.specs.Owner as spec
 use Rattle.counting_set.proofs.insert.count_insert.Goals as goal
 
 pub owner_of_key-owner-requires : goal.owner_of_key-owner-requires
