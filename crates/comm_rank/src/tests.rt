@@ -8,6 +8,7 @@ ghost use Rattle.comm_rank.specs.Rank.{IsSameRank, fresh_rank};
 mod paths;
 mod queue_post;
 mod rounds;
+mod taps;
 
 use super::*;
 use msg_codec::{Body, Counter, LetterRef};
@@ -18,6 +19,7 @@ use std::process::Abort;
 use std::test::*;
 use world_core::{Entry, Limits, PlainLinks, Post};
 use ygm_route::{Layout, Scheme};
+use ygm_taps::{QuietTap, Tap};
 
 // The tags of a letter that changes nothing else, of one that asks for two answers, and of an answer.
 const NOTE: u8 = 0;
@@ -110,29 +112,30 @@ fn same<T: PartialEq + Debug + Drop>(rt: &impl Abort, found: T, wanted: T) {
     assert_eq!(rt; found, wanted);
 }
 
-// A rank that has sent and run nothing.
-fn rank_of(
+// A rank that has sent and run nothing, with a tap.
+fn rank_of<T: Tap>(
     alloc: Global,
     layout: Layout,
     scheme: Scheme,
     here: u32,
     limits: Limits,
-) -> Result<Comm<Echo>, Fail>
+    tap: T,
+) -> Result<Comm<Echo, T>, Fail>
     requires below { here < layout.ranks }
-    ensures made { IfOk result (λ comm. comm ≡ fresh_rank layout scheme here limits.letters []) }
+    ensures made { IfOk result (λ comm. comm ≡ fresh_rank layout scheme here limits.letters [] (T.heard tap)) }
 {
     let echo = Echo {
         alloc,
         seen: Vec::new(alloc),
     };
-    let made = Comm::new(alloc, layout, scheme, here, BUFFER, limits, echo);
+    let made = Comm::new(alloc, layout, scheme, here, BUFFER, limits, echo, tap);
     Ok(made.ok().ok_or("there is memory for a rank")?)
 }
 
 // A rank sends a body of at most `LONG` bytes, if it isn't stopped.
-fn send_by<H: Handler>(
+fn send_by<H: Handler, T: Tap>(
     alloc: Global,
-    comm: &mut Comm<H>,
+    comm: &mut Comm<H, T>,
     to: u32,
     tag: u8,
     body: &[u8],
@@ -148,7 +151,7 @@ fn send_by<H: Handler>(
 }
 
 // A rank closes its batches, if it isn't stopped.
-fn flush_by<H: Handler>(comm: &mut Comm<H>) -> Result<(), Fail>
+fn flush_by<H: Handler, T: Tap>(comm: &mut Comm<H, T>) -> Result<(), Fail>
     ensures agrees { (log : List Entry) → Agrees H.apply H.start comm.old log → Agrees H.apply H.start comm.new log }
     ensures stopped { comm.new.stopped ≡ comm.old.stopped }
     ensures same { IsSameRank comm.old comm.new }
@@ -162,7 +165,10 @@ fn flush_by<H: Handler>(comm: &mut Comm<H>) -> Result<(), Fail>
 
 // A turn. Of what it promises this is enough here: a rank that isn't stopped still belongs to the post,
 // and has put data letters alone.
-fn turn_of<H: Handler, P: Post>(comm: &mut Comm<H>, post: &mut P) -> Result<Turn, CommFault>
+fn turn_of<H: Handler, T: Tap, P: Post>(
+    comm: &mut Comm<H, T>,
+    post: &mut P,
+) -> Result<Turn, CommFault>
     requires going { comm.old.stopped ≡ false }
     requires belongs { Belongs H.apply H.start comm.old (P.state post.old) }
     requires data_alone { PutsData ((P.state post.old).log comm.old.here) }
@@ -174,13 +180,13 @@ fn turn_of<H: Handler, P: Post>(comm: &mut Comm<H>, post: &mut P) -> Result<Turn
     comm.turn(post)
 }
 
-// All ranks of a world, and its links. What is large is in a `Vec` and a `Box`. A rank that isn't stopped belongs to the
-// links, and has put data letters alone.
+// All ranks of a world, with quiet taps, and its links. What is large is in a `Vec` and a `Box`. A rank that isn't
+// stopped belongs to the links, and has put data letters alone.
 #[derive(Drop)]
 struct Ranks<H: Handler> {
     alloc: Global,
     layout: Layout,
-    comms: Vec<Comm<H>>,
+    comms: Vec<Comm<H, QuietTap>>,
     links: Box<PlainLinks>,
 }
 
@@ -214,7 +220,7 @@ fn world_of(
     let links = boxed(alloc, links)?;
     let mut comms = Vec::new(alloc);
     for here in 0..layout.ranks() {
-        comms.push(rank_of(alloc, layout, scheme, here, limits)?)?;
+        comms.push(rank_of(alloc, layout, scheme, here, limits, QuietTap)?)?;
     }
     Ok(Ranks {
         alloc,
@@ -232,7 +238,7 @@ fn ranks_of(alloc: Global, ranks: u32, ring: u32, limits: Limits) -> Result<Rank
 }
 
 impl<H: Handler> Ranks<H> {
-    fn rank(&self, rank: u32) -> Result<&Comm<H>, Fail> {
+    fn rank(&self, rank: u32) -> Result<&Comm<H, QuietTap>, Fail> {
         Ok(self.comms.get(rank as usize).ok_or("there is such a rank")?)
     }
 
@@ -441,7 +447,7 @@ fn a_rank_whose_handler_sends_too_many_stops_all(rt: HostRuntime) -> Result<(), 
 // A rank that sends is no longer idle, and one that halts has raised the stop.
 fn sends_and_halts(
     rt: &impl Abort,
-    comm: &mut Comm<Echo>,
+    comm: &mut Comm<Echo, QuietTap>,
     links: &mut PlainLinks,
 ) -> Result<(), Fail>
     requires { IsTrue ((state_of links.old).serves comm.old.here) }
@@ -462,7 +468,14 @@ fn sends_and_halts(
 #[test]
 fn a_rank_halts_by_itself(rt: HostRuntime) -> Result<(), Fail> {
     let layout = Layout::new(1, 1)?;
-    let mut comm = rank_of(rt.alloc(), layout, Scheme::Direct, 0, Limits::FULL)?;
+    let mut comm = rank_of(
+        rt.alloc(),
+        layout,
+        Scheme::Direct,
+        0,
+        Limits::FULL,
+        QuietTap,
+    )?;
     let mut links = PlainLinks::new(rt.alloc(), layout, Scheme::Direct, 1, Limits::FULL)?;
     sends_and_halts(&rt, &mut comm, &mut links)
 }

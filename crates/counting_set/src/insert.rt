@@ -12,12 +12,13 @@ use crate::item_count::item_count_body;
 use comm_rank::{Comm, CommFault, Handler};
 use part_hash::owner_of_key;
 use std::alloc::Global;
+use ygm_taps::Tap;
 
 /// Adds one of an item, by a letter to the rank that owns it. At `CommFault::CountFull` the rank has sent as many
 /// letters as it may; `CommFault::NoMemory` is lack of memory. After either the rank is unchanged.
-pub fn count_insert<H: Handler>(
+pub fn count_insert<H: Handler, T: Tap>(
     alloc: Global,
-    comm: &mut Comm<H>,
+    comm: &mut Comm<H, T>,
     item: &[u8],
 ) -> Result<(), CommFault>
     requires short { length item.now ≤ MAX_ITEM }

@@ -1,4 +1,4 @@
-ghost use Rattle.std.specs.Prelude.{◌≡◌, ◌≤◌, ◌<◌, List, [], false, length, IfOk};
+ghost use Rattle.std.specs.Prelude.{◌≡◌, ◌≤◌, ◌<◌, List, [], None, false, length, IfOk};
 ghost use Rattle.msg_codec.specs.Limits.{max_body};
 ghost use Rattle.world_core.specs.declared.entry.Entry.{Entry};
 ghost use Rattle.world_core.specs.Plain.{state_of};
@@ -19,6 +19,7 @@ use std::process::Abort;
 use std::test::*;
 use world_core::{Limits, PlainLinks};
 use ygm_route::{Layout, Scheme};
+use ygm_taps::{QuietTap, Tap};
 
 // The most bytes of a batch of more than one letter.
 const BUFFER: u32 = 64;
@@ -221,15 +222,15 @@ fn a_body_over_the_limit_adds_nothing(rt: HostRuntime) -> Result<(), Fail> {
     around_the_limit(&rt, rt.alloc(), &mut *empty(rt.alloc())?)
 }
 
-// A rank that has sent and run nothing.
+// A rank that has sent and run nothing, with a quiet tap.
 fn rank_of(
     alloc: Global,
     layout: Layout,
     here: u32,
     limits: Limits,
-) -> Result<Box<Comm<Counting>>, Fail>
+) -> Result<Box<Comm<Counting, QuietTap>>, Fail>
     requires below { here < layout.ranks }
-    ensures made { IfOk result (λ comm. comm.value ≡ fresh_rank layout Direct here limits.letters []) }
+    ensures made { IfOk result (λ comm. comm.value ≡ fresh_rank layout Direct here limits.letters [] None) }
 {
     let counting = Counting::new(alloc)?;
     let made = Comm::new(
@@ -240,12 +241,13 @@ fn rank_of(
         BUFFER,
         limits,
         counting,
+        QuietTap,
     );
     boxed(alloc, made.ok().ok_or("there is memory for a rank")?)
 }
 
 // A turn of a rank, if it isn't stopped.
-fn turn_of<H: Handler>(comm: &mut Comm<H>, links: &mut PlainLinks) -> Result<Turn, Fail>
+fn turn_of<H: Handler, T: Tap>(comm: &mut Comm<H, T>, links: &mut PlainLinks) -> Result<Turn, Fail>
     requires belongs { comm.old.stopped ≡ false → Belongs H.apply H.start comm.old (state_of links.old) }
     requires data_alone { comm.old.stopped ≡ false → PutsData (log_of links.old.world comm.old.here) }
     ensures belongs { comm.new.stopped ≡ false → Belongs H.apply H.start comm.new (state_of links.new) }
@@ -261,7 +263,7 @@ fn turn_of<H: Handler>(comm: &mut Comm<H>, links: &mut PlainLinks) -> Result<Tur
 }
 
 // Inserts `a` once and the empty item twice, and closes the batches.
-fn insert_three(alloc: Global, comm: &mut Comm<Counting>) -> Result<(), Fail>
+fn insert_three(alloc: Global, comm: &mut Comm<Counting, QuietTap>) -> Result<(), Fail>
     ensures agrees { (log : List Entry) → Agrees counting_apply (λ _. []) comm.old log → Agrees counting_apply (λ _. []) comm.new log }
     ensures stopped { comm.new.stopped ≡ comm.old.stopped }
     ensures same { IsSameRank comm.old comm.new }
@@ -279,8 +281,8 @@ fn insert_three(alloc: Global, comm: &mut Comm<Counting>) -> Result<(), Fail>
 // The ranks 0 and 1 of a world of two, and its links.
 #[derive(Drop)]
 struct Pair {
-    near: Box<Comm<Counting>>,
-    far: Box<Comm<Counting>>,
+    near: Box<Comm<Counting, QuietTap>>,
+    far: Box<Comm<Counting, QuietTap>>,
     links: Box<PlainLinks>,
 }
 
@@ -382,7 +384,11 @@ const ONE_LETTER: Limits = Limits {
 };
 
 // The second of two inserts is refused because the rank has sent as many letters as it may.
-fn second_refused(rt: &impl Abort, alloc: Global, comm: &mut Comm<Counting>) -> Result<(), Fail> {
+fn second_refused(
+    rt: &impl Abort,
+    alloc: Global,
+    comm: &mut Comm<Counting, QuietTap>,
+) -> Result<(), Fail> {
     if comm.is_stopped() {
         return Err("a rank that isn't stopped inserts".into());
     }

@@ -55,7 +55,7 @@ pub record AreRuns {S : Type 0} (left : S → ExposedBytes) (faults : S → ℕ)
 -- a job that has read nothing, of a rank that has sent and run nothing and has entered no barrier
 pub record IsFreshRun (layout : Shape) (scheme : Scheme) (rank : ℕ) (run : RankRun) : Type 0 where
   pub job : run.job ≡ fresh_job
-  pub comm : run.comm ≡ fresh_rank layout scheme rank most_letters []
+  pub comm : run.comm ≡ fresh_rank layout scheme rank most_letters [] None
   pub agrees : Agrees counting_apply (λ _. []) run.comm []
   pub barrier : run.barrier ≡ fresh_barrier layout rank most_rounds
   pub going : run.ended ≡ None

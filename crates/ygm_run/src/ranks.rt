@@ -23,6 +23,7 @@ use term_barrier::Barrier;
 use world_core::{Limits, PlainLinks, Post};
 use ygm_io::{CalmSource, Source};
 use ygm_route::{Layout, Scheme};
+use ygm_taps::QuietTap;
 
 /// How many batches a link holds.
 const RING: u32 = 4;
@@ -31,7 +32,7 @@ const RING: u32 = 4;
 #[derive(Drop)]
 pub(crate) struct RankRun {
     pub(crate) job: Job,
-    pub(crate) comm: Comm<Counting>,
+    pub(crate) comm: Comm<Counting, QuietTap>,
     pub(crate) barrier: Barrier,
     /// How the job ended, if it has: it finished, or this fault stopped it.
     pub(crate) ended: Option<Result<(), CommFault>>,
@@ -58,6 +59,7 @@ impl RankRun {
             buffer,
             Limits::FULL,
             Counting::new(alloc)?,
+            QuietTap,
         ) else {
             return Err(AllocError);
         };

@@ -34,7 +34,7 @@ no_fault faults (Some one) fresh = fresh one refl
 
 module _ (layout : Shape) (scheme : Scheme) (ring batches rank : ℕ) (within : rank < layout.ranks) where
   abbrev me : Rank Counts
-  me = fresh_rank layout scheme rank most_letters []
+  me = fresh_rank layout scheme rank most_letters [] None
 
   abbrev barrier : BarrierState
   barrier = fresh_barrier layout rank most_rounds
@@ -44,8 +44,8 @@ module _ (layout : Shape) (scheme : Scheme) (ring batches rank : ℕ) (within : 
 
   carries_none : Carries counting_apply (λ _. []) (λ phase to. []) (λ k. 0) barrier me post
   carries_none =
-      carries_new counting_apply (λ _. []) layout scheme rank most_letters most_rounds [] (λ k. 0) post
-      (belongs_new counting_apply (λ _. []) layout scheme most_letters ring batches [] refl rank within)
+      carries_new counting_apply (λ _. []) layout scheme rank most_letters most_rounds [] None (λ k. 0) post
+      (belongs_new counting_apply (λ _. []) layout scheme most_letters ring batches [] None refl rank within)
       (get_or-replicate layout.ranks rank [] [] within)
 
   keeps_new : (left : ExposedBytes) → KeepsJob left fresh_job me barrier post left

@@ -121,7 +121,7 @@ module _ {S : Type 0} (left : S → ExposedBytes) (faults : S → ℕ) (layout :
 
       -- a rank's job, and any one past the last rank
       abbrev run_at : ℕ → RankRun
-      run_at rank = get_or runs rank (record { job = fresh_job; comm = fresh_rank layout links.world.scheme 0 0 []; barrier = fresh_barrier layout 0 0; ended = None })
+      run_at rank = get_or runs rank (record { job = fresh_job; comm = fresh_rank layout links.world.scheme 0 0 [] None; barrier = fresh_barrier layout 0 0; ended = None })
 
       all_ranks : length runs ≡ ranks
       all_ranks = are.all ∙ sym (ap (λ (l : Shape). l.ranks) are.same_world)

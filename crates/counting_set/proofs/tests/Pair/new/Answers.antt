@@ -12,8 +12,8 @@ invariant_of-result c =
       refl,
       refl,
       refl,
-      λ going. belongs_new counting_apply (λ _. []) layout Direct _ _ _ [] refl 0 (omega arith),
+      λ going. belongs_new counting_apply (λ _. []) layout Direct _ _ _ [] None refl 0 (omega arith),
       λ going. tt,
-      λ going. belongs_new counting_apply (λ _. []) layout Direct _ _ _ [] refl 1 (omega arith),
+      λ going. belongs_new counting_apply (λ _. []) layout Direct _ _ _ [] None refl 1 (omega arith),
       λ going. tt,
     )
