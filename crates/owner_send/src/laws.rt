@@ -3,7 +3,7 @@ ghost use Rattle.std.specs.Prelude.{◌≡◌, ◌≤◌, ◌+◌, ℕ, List, So
 ghost use Rattle.msg_codec.specs.Spelling.{spelled_body};
 ghost use Rattle.owner_send.specs.Item.{item_of, max_item, max_read};
 
-use crate::item::{MAX_ITEM, MAX_READ};
+use crate::encoding::{MAX_ITEM, MAX_READ};
 use msg_codec::{Body, Wire};
 
 /// An item is encoded as the value of a body is, and the limits are these numbers.

@@ -2,11 +2,11 @@
 //! to the key's owner.
 #![tactic(auto)]
 
-mod item;
+mod encoding;
 mod laws;
 mod send;
 
-pub use item::{MAX_ITEM, key_body, read_item};
+pub use encoding::{MAX_ITEM, key_body, read_item};
 pub use laws::{items_are_bodies, items_are_read_again, no_two_items_are_encoded_alike};
 pub use send::send_to_owner;
 
