@@ -1,0 +1,4 @@
+pub mod Bag
+pub mod Places
+pub mod Set
+pub mod Shown
