@@ -1,4 +1,4 @@
-pub mod Bag
+pub mod Bags
 pub mod Places
-pub mod Set
+pub mod Sets
 pub mod Shown

@@ -2,7 +2,7 @@
 ghost use Rattle.std.specs.Prelude.{◌≡◌, ◌<◌, [], Some, length, IfOk, slice_get};
 ghost use Rattle.std.specs.Option.{option_map};
 ghost use Rattle.msg_codec.specs.Letter.{letter_of};
-ghost use Rattle.bag_set.specs.Bag as spec;
+ghost use Rattle.bag_set.specs.Bags as spec;
 
 use crate::kept_items::KeptItems;
 use comm_rank::{Handler, Outgoing};
@@ -22,7 +22,7 @@ pub struct Bag {
 }
 
 impl Model for Bag {
-    ghost use Rattle.bag_set.specs.Bag.{Items};
+    ghost use Rattle.bag_set.specs.Bags.{Items};
 
     ghost Value = { Items };
 
@@ -67,7 +67,7 @@ fn item_inserted(letter: LetterRef<'_>) -> Option<&[u8]>
 
 impl Handler for Bag {
     ghost use Rattle.std.specs.Prelude.{[], refl};
-    ghost use Rattle.bag_set.specs.Bag.{bag_apply};
+    ghost use Rattle.bag_set.specs.Bags.{bag_apply};
 
     ghost apply = { bag_apply };
 

@@ -3,7 +3,7 @@ ghost use Rattle.std.specs.Prelude.{◌≡◌, ◌≢◌, ◌+◌, ◌%◌, ◌<
 ghost use Rattle.msg_codec.specs.declared.letter.Letter.{Letter};
 ghost use Rattle.comm_rank.specs.Fold.{fold_from, handed_from};
 ghost use Rattle.owner_send.specs.Item.{item_of};
-ghost use Rattle.bag_set.specs.Bag.{Items, all_inserted, bag_apply, insert_letter, inserts, turn_after};
+ghost use Rattle.bag_set.specs.Bags.{Items, all_inserted, bag_apply, insert_letter, inserts, turn_after};
 
 use owner_send::MAX_ITEM;
 

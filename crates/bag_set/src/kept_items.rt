@@ -20,7 +20,7 @@ pub(crate) struct KeptItems {
 
 impl Model for KeptItems {
     ghost use Rattle.std.specs.Prelude.{All, map};
-    ghost use Rattle.bag_set.specs.Bag.{Items};
+    ghost use Rattle.bag_set.specs.Bags.{Items};
     ghost use Rattle.bag_set.specs.Places.{item_in, IsWithin};
 
     ghost Value = { Items };

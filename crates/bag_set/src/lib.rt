@@ -3,19 +3,19 @@
 #![tactic(auto)]
 
 mod bag;
+mod bag_calls;
 mod bag_laws;
-mod insert;
 mod kept_items;
 mod set;
 mod set_calls;
 mod set_laws;
 
 pub use bag::Bag;
+pub use bag_calls::{BagTurn, bag_insert};
 pub use bag_laws::{
     a_bag_holds_what_was_inserted, a_bag_insert_inserts, bags_send_nothing, items_go_round,
     other_letters_leave_a_bag_unchanged,
 };
-pub use insert::{BagTurn, bag_insert};
 pub use set::Set;
 pub use set_calls::{set_erase, set_insert};
 pub use set_laws::{

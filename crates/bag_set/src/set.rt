@@ -1,7 +1,7 @@
 //! What a rank keeps of a set.
 ghost use Rattle.std.specs.Prelude.{◌≡◌, ◌<◌, [], length, Some, IfOk, OnOk, OnErr, slice_get};
 ghost use Rattle.std.specs.List.{FoldsTo};
-ghost use Rattle.bag_set.specs.Set as spec;
+ghost use Rattle.bag_set.specs.Sets as spec;
 ghost use Rattle.bag_set.specs.Shown.{ShownTo};
 
 use comm_rank::{Handler, Outgoing};
@@ -27,7 +27,7 @@ pub struct Set {
 
 impl Model for Set {
     ghost use Rattle.std.specs.Prelude.{map};
-    ghost use Rattle.bag_set.specs.Set.{Items};
+    ghost use Rattle.bag_set.specs.Sets.{Items};
 
     ghost Value = { Items };
 
@@ -109,7 +109,7 @@ impl Set {
 
 impl Handler for Set {
     ghost use Rattle.std.specs.Prelude.{[], refl};
-    ghost use Rattle.bag_set.specs.Set.{set_apply};
+    ghost use Rattle.bag_set.specs.Sets.{set_apply};
 
     ghost apply = { set_apply };
 

@@ -2,7 +2,7 @@
 ghost use Rattle.std.specs.Prelude.{◌≡◌, ◌≤◌, false, length};
 ghost use Rattle.part_hash.specs.Owner as owner;
 ghost use Rattle.owner_send.specs.Sends.{SendsOne};
-ghost use Rattle.bag_set.specs.Set.{erase_letter, insert_letter};
+ghost use Rattle.bag_set.specs.Sets.{erase_letter, insert_letter};
 
 use crate::set::{ERASE, INSERT};
 use comm_rank::{Comm, CommFault, Handler};

@@ -5,7 +5,7 @@ ghost use Rattle.list_facts.specs.Sublist.{IsSublist};
 ghost use Rattle.msg_codec.specs.declared.letter.Letter.{Letter};
 ghost use Rattle.comm_rank.specs.Fold.{fold_from, handed_from};
 ghost use Rattle.owner_send.specs.Item.{item_of};
-ghost use Rattle.bag_set.specs.Set.{IsOf, Items, erase_letter, erased, erases, insert_letter, inserted, inserts, set_apply};
+ghost use Rattle.bag_set.specs.Sets.{IsOf, Items, erase_letter, erased, erases, insert_letter, inserted, inserts, set_apply};
 
 use owner_send::MAX_ITEM;
 

@@ -1,7 +1,7 @@
 //! Inserting into a bag from any rank.
 ghost use Rattle.std.specs.Prelude.{◌≡◌, ◌<◌, ◌≤◌, false, length, OnOk, OnErr};
 ghost use Rattle.owner_send.specs.Sends.{SendsOne};
-ghost use Rattle.bag_set.specs.Bag.{insert_letter, next_turn};
+ghost use Rattle.bag_set.specs.Bags.{insert_letter, next_turn};
 
 use crate::bag::INSERT;
 use comm_rank::{Comm, CommFault, Handler};
