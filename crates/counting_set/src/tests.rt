@@ -13,17 +13,53 @@ use super::*;
 use comm_rank::{Comm, CommFault, Handler, Outgoing, Turn, a_turn_puts_data_letters_alone};
 use msg_codec::LetterRef;
 use std::alloc::{AllocError, Global};
+use std::fmt::Debug;
 use std::marker::Model;
+use std::process::Abort;
 use std::test::*;
 use world_core::{Limits, PlainLinks};
 use ygm_route::{Layout, Scheme};
 
-// Runs an add of so many of an item.
-fn add(alloc: Global, counting: &mut Counting, item: &[u8], count: u64) -> Result<u64, AllocError>
-    requires { length item.now ≤ 100 }
+// The most bytes of a batch of more than one letter.
+const BUFFER: u32 = 64;
+
+// A value in a box. Its owner drops it by one call, whatever it holds.
+fn boxed<T: Drop>(alloc: Global, value: T) -> Result<Box<T>, Fail>
+    ensures { IfOk result (λ boxed. boxed.value ≡ value) }
 {
+    Ok(
+        Box::new(alloc, value)
+            .ok()
+            .ok_or("there is memory for a box")?,
+    )
+}
+
+// Fails the test unless both are equal. The macro would be proved anew wherever it stands.
+fn same<T: PartialEq + Debug + Drop>(rt: &impl Abort, found: T, wanted: T) {
+    assert_eq!(rt; found, wanted);
+}
+
+// An empty set.
+fn empty(alloc: Global) -> Result<Box<Counting>, Fail> {
+    boxed(alloc, Counting::new(alloc)?)
+}
+
+// Runs an add of so many of an item.
+fn add(alloc: Global, counting: &mut Counting, item: &[u8], count: u64) -> Result<(), Fail> {
+    if item.len() > 100 {
+        return Err("an item of a test is short".into());
+    }
     let body = item_count_body(alloc, item, count)?;
-    run(alloc, counting, 1, body.as_slice())
+    run(alloc, counting, 1, body.as_slice())?;
+    Ok(())
+}
+
+// Runs adds, in order.
+fn add_all(alloc: Global, counting: &mut Counting, items: &[(&[u8], u64)]) -> Result<(), Fail> {
+    for (item, count) in items {
+        add(alloc, counting, item, *count)?;
+    }
+    Ok(())
 }
 
 // Runs a letter, and returns how many letters the handler sent then.
@@ -50,49 +86,51 @@ fn entry(counting: &Counting, k: u64) -> Option<(&[u8], u64)> {
     }
 }
 
-// Two of `ab`, one of `a`, five of nothing, and three of `ab` more.
-fn some_items(alloc: Global) -> Result<Counting, AllocError> {
-    let mut counting = Counting::new(alloc)?;
-    add(alloc, &mut counting, b"ab", 2)?;
-    add(alloc, &mut counting, b"a", 1)?;
-    add(alloc, &mut counting, b"", 5)?;
-    add(alloc, &mut counting, b"ab", 3)?;
-    Ok(counting)
+// Two of `ab`, one of `a`, five of the empty item, and three of `ab` more.
+fn add_some(alloc: Global, counting: &mut Counting) -> Result<(), Fail> {
+    let items: [(&[u8], u64); 4] = [(b"ab", 2), (b"a", 1), (b"", 5), (b"ab", 3)];
+    add_all(alloc, counting, &items)
+}
+
+fn in_order(rt: &impl Abort, alloc: Global, counting: &mut Counting) -> Result<(), Fail> {
+    add_some(alloc, counting)?;
+    let first = (entry(counting, 0), entry(counting, 1));
+    let last = (entry(counting, 2), entry(counting, 3));
+    same(
+        rt,
+        (first, last),
+        (
+            (Some((b"ab".as_slice(), 5)), Some((b"a".as_slice(), 1))),
+            (Some((b"".as_slice(), 5)), None),
+        ),
+    );
+    Ok(())
 }
 
 #[test]
 fn items_stand_in_the_order_of_their_first_adds(rt: HostRuntime) -> Result<(), Fail> {
-    let counting = some_items(rt.alloc())?;
-    assert_eq!(rt; counting.len_here(), 3);
-    assert_eq!(rt; entry(&counting, 0), Some((b"ab".as_slice(), 5)));
-    assert_eq!(rt; entry(&counting, 1), Some((b"a".as_slice(), 1)));
-    assert_eq!(rt; entry(&counting, 2), Some((b"".as_slice(), 5)));
+    in_order(&rt, rt.alloc(), &mut *empty(rt.alloc())?)
+}
+
+fn apart(rt: &impl Abort, alloc: Global, counting: &mut Counting) -> Result<(), Fail> {
+    add_some(alloc, counting)?;
+    let counts = [
+        counting.count_here(b"ab"),
+        counting.count_here(b"a"),
+        counting.count_here(b""),
+        counting.count_here(b"abc"),
+    ];
+    same(rt, counts, [5, 1, 5, 0]);
     Ok(())
 }
 
 #[test]
 fn an_item_that_begins_another_is_apart(rt: HostRuntime) -> Result<(), Fail> {
-    let counting = some_items(rt.alloc())?;
-    assert_eq!(rt; counting.count_here(b"ab"), 5);
-    assert_eq!(rt; counting.count_here(b"a"), 1);
-    assert_eq!(rt; counting.count_here(b""), 5);
-    assert_eq!(rt; counting.count_here(b"abc"), 0);
-    Ok(())
+    apart(&rt, rt.alloc(), &mut *empty(rt.alloc())?)
 }
 
-// Twice `x`, and `yz` and the empty item between.
-fn three_items(alloc: Global) -> Result<Counting, AllocError> {
-    let mut counting = Counting::new(alloc)?;
-    add(alloc, &mut counting, b"x", 2)?;
-    add(alloc, &mut counting, b"yz", 3)?;
-    add(alloc, &mut counting, b"", 1)?;
-    add(alloc, &mut counting, b"x", 4)?;
-    Ok(counting)
-}
-
-#[test]
-fn each_item_is_shown_once(rt: HostRuntime) -> Result<(), Fail> {
-    let counting = three_items(rt.alloc())?;
+// The number of calls, and the sum of the counts for each length of an item, from 0 to 2.
+fn shown_to(counting: &Counting) -> (u64, [u64; 3]) {
     let mut calls = 0u64;
     let mut sums = [0u64; 3];
     counting.for_all(|item, count| {
@@ -101,33 +139,55 @@ fn each_item_is_shown_once(rt: HostRuntime) -> Result<(), Fail> {
             sums[item.len()] = sums[item.len()].saturating_add(count);
         }
     });
-    assert_eq!(rt; calls, 3);
-    assert_eq!(rt; sums, [1, 6, 3]);
+    (calls, sums)
+}
+
+fn shown_once(rt: &impl Abort, alloc: Global, counting: &mut Counting) -> Result<(), Fail> {
+    add_some(alloc, counting)?;
+    same(rt, shown_to(counting), (3, [5, 1, 5]));
     Ok(())
 }
 
 #[test]
-fn a_count_stands_still_at_the_end_of_its_type(rt: HostRuntime) -> Result<(), Fail> {
-    let alloc = rt.alloc();
-    let mut counting = Counting::new(alloc)?;
-    add(alloc, &mut counting, b"x", u64::MAX - 1)?;
-    add(alloc, &mut counting, b"x", 3)?;
-    assert_eq!(rt; counting.count_here(b"x"), u64::MAX);
+fn each_item_is_shown_once(rt: HostRuntime) -> Result<(), Fail> {
+    shown_once(&rt, rt.alloc(), &mut *empty(rt.alloc())?)
+}
+
+fn at_the_most(rt: &impl Abort, alloc: Global, counting: &mut Counting) -> Result<(), Fail> {
+    add(alloc, counting, b"x", u64::MAX - 1)?;
+    add(alloc, counting, b"x", 3)?;
+    same(rt, counting.count_here(b"x"), u64::MAX);
+    Ok(())
+}
+
+#[test]
+fn a_count_stays_at_the_largest_value_of_its_type(rt: HostRuntime) -> Result<(), Fail> {
+    at_the_most(&rt, rt.alloc(), &mut *empty(rt.alloc())?)
+}
+
+// An add of one `x`.
+const X_ONCE: [u8; 13] = [1, 0, 0, 0, 120, 1, 0, 0, 0, 0, 0, 0, 0];
+
+// An add with another tag, one without its last byte and an empty one add nothing and send nothing. The add itself adds.
+fn others(rt: &impl Abort, alloc: Global, counting: &mut Counting) -> Result<(), Fail> {
+    let sent = [
+        run(alloc, counting, 2, &X_ONCE)?,
+        run(alloc, counting, 1, &X_ONCE[..12])?,
+        run(alloc, counting, 1, b"")?,
+    ];
+    let len = counting.len_here();
+    run(alloc, counting, 1, &X_ONCE)?;
+    same(
+        rt,
+        (sent, len, counting.count_here(b"x")),
+        ([0, 0, 0], 0, 1),
+    );
     Ok(())
 }
 
 #[test]
 fn other_letters_change_nothing(rt: HostRuntime) -> Result<(), Fail> {
-    let alloc = rt.alloc();
-    let mut counting = Counting::new(alloc)?;
-    let x_once = [1, 0, 0, 0, 120, 1, 0, 0, 0, 0, 0, 0, 0];
-    assert_eq!(rt; run(alloc, &mut counting, 2, &x_once)?, 0);
-    assert_eq!(rt; run(alloc, &mut counting, 1, &x_once[..12])?, 0);
-    assert_eq!(rt; run(alloc, &mut counting, 1, b"")?, 0);
-    assert_eq!(rt; counting.len_here(), 0);
-    run(alloc, &mut counting, 1, &x_once)?;
-    assert_eq!(rt; counting.count_here(b"x"), 1);
-    Ok(())
+    others(&rt, rt.alloc(), &mut *empty(rt.alloc())?)
 }
 
 // An item of so many bytes.
@@ -139,49 +199,72 @@ fn item_of(alloc: Global, len: usize) -> Result<Vec<u8>, AllocError>
     Ok(item)
 }
 
-// Whether an item of so many bytes is added.
-fn is_added(alloc: Global, len: usize) -> Result<bool, AllocError>
+// How many items are there after an add of an item of so many bytes.
+fn len_after(alloc: Global, counting: &mut Counting, len: usize) -> Result<u64, AllocError>
     requires { len ≤ 1000200 }
 {
-    let mut counting = Counting::new(alloc)?;
     let item = item_of(alloc, len)?;
     let body = item_count_body(alloc, &item, 1)?;
-    run(alloc, &mut counting, 1, body.as_slice())?;
-    Ok(counting.len_here() == 1)
+    run(alloc, counting, 1, body.as_slice())?;
+    Ok(counting.len_here())
 }
 
-#[test]
-fn a_body_over_the_limit_adds_nothing(rt: HostRuntime) -> Result<(), Fail> {
-    assert!(rt; is_added(rt.alloc(), 1_000_188)?);
-    assert!(rt; !is_added(rt.alloc(), 1_000_189)?);
+fn around_the_limit(rt: &impl Abort, alloc: Global, counting: &mut Counting) -> Result<(), Fail> {
+    let over = len_after(alloc, counting, 1_000_189)?;
+    let at = len_after(alloc, counting, 1_000_188)?;
+    same(rt, (over, at), (0, 1));
     Ok(())
 }
 
 #[test]
+fn a_body_over_the_limit_adds_nothing(rt: HostRuntime) -> Result<(), Fail> {
+    around_the_limit(&rt, rt.alloc(), &mut *empty(rt.alloc())?)
+}
+
+#[test]
 fn the_published_hashes(rt: HostRuntime) {
-    assert_eq!(rt; fnv(b""), 0xcbf2_9ce4_8422_2325);
-    assert_eq!(rt; fnv(b"a"), 0xaf63_dc4c_8601_ec8c);
-    assert_eq!(rt; fnv(b"foobar"), 0x8594_4171_f739_67e8);
-    assert_eq!(rt; owner_of_key(b"a", 4), 0);
-    assert_eq!(rt; owner_of_key(b"", 2), 1);
-    assert_eq!(rt; owner_of_key(b"foobar", 1), 0);
+    same(
+        &rt,
+        [fnv(b""), fnv(b"a"), fnv(b"foobar")],
+        [
+            0xcbf2_9ce4_8422_2325,
+            0xaf63_dc4c_8601_ec8c,
+            0x8594_4171_f739_67e8,
+        ],
+    );
+}
+
+#[test]
+fn a_key_belongs_to_its_hash_modulo_the_ranks(rt: HostRuntime) {
+    let owners = [
+        owner_of_key(b"a", 4),
+        owner_of_key(b"", 2),
+        owner_of_key(b"foobar", 1),
+    ];
+    same(&rt, owners, [0, 1, 0]);
 }
 
 // A rank that has sent and run nothing.
-fn rank_of<H: Handler>(
+fn rank_of(
     alloc: Global,
     layout: Layout,
     here: u32,
     limits: Limits,
-    handler: H,
-) -> Result<Comm<H>, Fail>
+) -> Result<Box<Comm<Counting>>, Fail>
     requires below { here < layout.ranks }
-    requires fresh { H.start handler ≡ handler }
-    ensures made { IfOk result (λ comm. comm ≡ fresh_rank layout Direct here limits.letters handler) }
-    ensures agrees { IfOk result (λ comm. Agrees H.apply H.start comm []) }
+    ensures made { IfOk result (λ comm. comm.value ≡ fresh_rank layout Direct here limits.letters []) }
 {
-    let made = Comm::new(alloc, layout, Scheme::Direct, here, limits, handler);
-    Ok(made.ok().ok_or("there is memory for a rank")?)
+    let counting = Counting::new(alloc)?;
+    let made = Comm::new(
+        alloc,
+        layout,
+        Scheme::Direct,
+        here,
+        BUFFER,
+        limits,
+        counting,
+    );
+    boxed(alloc, made.ok().ok_or("there is memory for a rank")?)
 }
 
 // A turn of a rank, if it isn't stopped.
@@ -200,7 +283,7 @@ fn turn_of<H: Handler>(comm: &mut Comm<H>, links: &mut PlainLinks) -> Result<Tur
     Ok(comm.turn(links)?)
 }
 
-// Inserts `a` once and the empty item twice.
+// Inserts `a` once and the empty item twice, and closes the batches.
 fn insert_three(alloc: Global, comm: &mut Comm<Counting>) -> Result<(), Fail>
     ensures agrees { (log : List Entry) → Agrees counting_apply (λ _. []) comm.old log → Agrees counting_apply (λ _. []) comm.new log }
     ensures stopped { comm.new.stopped ≡ comm.old.stopped }
@@ -212,15 +295,16 @@ fn insert_three(alloc: Global, comm: &mut Comm<Counting>) -> Result<(), Fail>
     count_insert(alloc, comm, b"a")?;
     count_insert(alloc, comm, b"")?;
     count_insert(alloc, comm, b"")?;
+    comm.flush()?;
     Ok(())
 }
 
 // The ranks 0 and 1 of a world of two, and its links.
 #[derive(Drop)]
 struct Pair {
-    near: Comm<Counting>,
-    far: Comm<Counting>,
-    links: PlainLinks,
+    near: Box<Comm<Counting>>,
+    far: Box<Comm<Counting>>,
+    links: Box<PlainLinks>,
 }
 
 impl Model for Pair {
@@ -232,39 +316,36 @@ impl Model for Pair {
 
     ghost Value = { Plain };
 
-    ghost view = { λ pair. pair.links };
+    ghost view = { λ pair. pair.links.value };
 
-    ghost invariant = { λ pair. (pair.near.here ≡ 0) × (pair.far.here ≡ 1) × (pair.links.world.layout.ranks ≡ 2)
-        × (pair.near.stopped ≡ false → Belongs counting_apply (λ _. []) pair.near (state_of pair.links))
-        × (pair.near.stopped ≡ false → PutsData (log_of pair.links.world 0))
-        × (pair.far.stopped ≡ false → Belongs counting_apply (λ _. []) pair.far (state_of pair.links))
-        × (pair.far.stopped ≡ false → PutsData (log_of pair.links.world 1)) };
+    ghost invariant = { λ pair. (pair.near.value.here ≡ 0) × (pair.far.value.here ≡ 1) × (pair.links.value.world.layout.ranks ≡ 2)
+        × (pair.near.value.stopped ≡ false → Belongs counting_apply (λ _. []) pair.near.value (state_of pair.links.value))
+        × (pair.near.value.stopped ≡ false → PutsData (log_of pair.links.value.world 0))
+        × (pair.far.value.stopped ≡ false → Belongs counting_apply (λ _. []) pair.far.value (state_of pair.links.value))
+        × (pair.far.value.stopped ≡ false → PutsData (log_of pair.links.value.world 1)) };
 }
 
 impl Pair {
     // Both ranks have sent and run nothing.
     fn new(alloc: Global) -> Result<Pair, Fail> {
         let layout = Layout::new(2, 1)?;
-        let near = Counting::new(alloc)?;
-        let far = Counting::new(alloc)?;
-        Ok(Pair {
-            near: rank_of(alloc, layout, 0, Limits::FULL, near)?,
-            far: rank_of(alloc, layout, 1, Limits::FULL, far)?,
-            links: PlainLinks::new(alloc, layout, Scheme::Direct, 4, Limits::FULL)?,
-        })
+        let links = PlainLinks::new(alloc, layout, Scheme::Direct, 4, Limits::FULL)?;
+        let links = boxed(alloc, links)?;
+        let near = rank_of(alloc, layout, 0, Limits::FULL)?;
+        let far = rank_of(alloc, layout, 1, Limits::FULL)?;
+        Ok(Pair { near, far, links })
     }
 
-    // Rank 1 inserts, and a turn puts its letters. It answers how many it sent, and how many items it keeps.
-    fn insert(&mut self, alloc: Global) -> Result<(u64, u64), Fail> {
+    // Rank 1 inserts, and a turn puts its letters.
+    fn insert(&mut self, alloc: Global) -> Result<(), Fail> {
         insert_three(alloc, &mut self.far)?;
         turn_of(&mut self.far, &mut self.links)?;
-        Ok((self.far.sent_count(), self.far.contents().len_here()))
+        Ok(())
     }
 
-    // Turns of each rank, until all letters ran.
+    // A turn of each rank. All letters have run then.
     fn run_all(&mut self) -> Result<(), Fail> {
         turn_of(&mut self.near, &mut self.links)?;
-        turn_of(&mut self.far, &mut self.links)?;
         turn_of(&mut self.far, &mut self.links)?;
         Ok(())
     }
@@ -281,29 +362,40 @@ impl Pair {
     }
 }
 
-#[test]
-fn inserts_are_put_into_the_links_to_the_owners(rt: HostRuntime) -> Result<(), Fail> {
-    let mut pair = Pair::new(rt.alloc())?;
-    assert_eq!(rt; pair.insert(rt.alloc())?, (3, 0));
-    assert_eq!(rt; pair.waiting(), [0, 0, 1, 2]);
+fn put_to_owners(rt: &impl Abort, alloc: Global, pair: &mut Pair) -> Result<(), Fail> {
+    pair.insert(alloc)?;
+    let far = (pair.far.sent_count(), pair.far.contents().len_here());
+    same(rt, (far, pair.waiting()), ((3, 0), [0, 0, 1, 1]));
     Ok(())
 }
 
+#[test]
+fn inserts_are_put_into_the_links_to_the_owners(rt: HostRuntime) -> Result<(), Fail> {
+    put_to_owners(&rt, rt.alloc(), &mut Pair::new(rt.alloc())?)
+}
+
 // What both ranks keep once rank 1 has inserted and all letters ran.
-fn shards_after_inserts(alloc: Global) -> Result<(Counting, Counting), Fail> {
-    let mut pair = Pair::new(alloc)?;
+fn at_the_owners(rt: &impl Abort, alloc: Global, pair: &mut Pair) -> Result<(), Fail> {
     pair.insert(alloc)?;
     pair.run_all()?;
-    Ok((pair.near.finish().handler, pair.far.finish().handler))
+    let near = pair.near.contents();
+    let far = pair.far.contents();
+    same(
+        rt,
+        (
+            entry(near, 0),
+            near.len_here(),
+            entry(far, 0),
+            far.len_here(),
+        ),
+        (Some((b"a".as_slice(), 1)), 1, Some((b"".as_slice(), 2)), 1),
+    );
+    Ok(())
 }
 
 #[test]
 fn an_item_goes_to_its_owner(rt: HostRuntime) -> Result<(), Fail> {
-    let (near, far) = shards_after_inserts(rt.alloc())?;
-    assert_eq!(rt; entry(&near, 0), Some((b"a".as_slice(), 1)));
-    assert_eq!(rt; entry(&far, 0), Some((b"".as_slice(), 2)));
-    assert_eq!(rt; (near.len_here(), far.len_here()), (1, 1));
-    Ok(())
+    at_the_owners(&rt, rt.alloc(), &mut Pair::new(rt.alloc())?)
 }
 
 const ONE_LETTER: Limits = Limits {
@@ -312,24 +404,26 @@ const ONE_LETTER: Limits = Limits {
     batches: 1,
 };
 
-// Whether the second of two inserts is refused because the rank has sent as many letters as it may.
-fn is_second_refused(alloc: Global, comm: &mut Comm<Counting>) -> Result<bool, Fail> {
+// The second of two inserts is refused because the rank has sent as many letters as it may.
+fn second_refused(rt: &impl Abort, alloc: Global, comm: &mut Comm<Counting>) -> Result<(), Fail> {
     if comm.is_stopped() {
         return Err("a rank that isn't stopped inserts".into());
     }
     count_insert(alloc, comm, b"a")?;
     let second = count_insert(alloc, comm, b"b");
-    Ok(matches!(second, Err(CommFault::CountFull(_))))
+    let full = matches!(second, Err(CommFault::CountFull(_)));
+    same(rt, (full, comm.sent_count()), (true, 1));
+    Ok(())
 }
 
 #[test]
 fn a_rank_at_its_limit_inserts_nothing(rt: HostRuntime) -> Result<(), Fail> {
-    let alloc = rt.alloc();
-    let shard = Counting::new(alloc)?;
-    let mut comm = rank_of(alloc, Layout::new(1, 1)?, 0, ONE_LETTER, shard)?;
-    assert!(rt; is_second_refused(alloc, &mut comm)?);
-    assert_eq!(rt; comm.sent_count(), 1);
-    Ok(())
+    let layout = Layout::new(1, 1)?;
+    second_refused(
+        &rt,
+        rt.alloc(),
+        &mut *rank_of(rt.alloc(), layout, 0, ONE_LETTER)?,
+    )
 }
 
 #[test]
@@ -349,7 +443,7 @@ fn can_be_sent<T: Send>(value: T) -> T {
 
 #[test]
 fn a_part_can_go_to_another_thread(rt: HostRuntime) -> Result<(), Fail> {
-    let counting = can_be_sent(Counting::new(rt.alloc())?);
-    assert_eq!(rt; counting.len_here(), 0);
+    let counting = can_be_sent(empty(rt.alloc())?);
+    same(&rt, counting.len_here(), 0);
     Ok(())
 }

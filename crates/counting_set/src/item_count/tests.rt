@@ -4,19 +4,25 @@ use crate::{
 };
 use std::test::*;
 
-const X_ONCE: [u8; 13] = [1, 0, 0, 0, 120, 1, 0, 0, 0, 0, 0, 0, 0];
+// One of the item `x`, and a byte more.
+const X_ONCE: [u8; 14] = [1, 0, 0, 0, 120, 1, 0, 0, 0, 0, 0, 0, 0, 0];
 
 #[test]
-fn an_item_and_its_count(rt: HostRuntime) -> Result<(), Fail> {
+fn an_item_is_encoded_before_its_count(rt: HostRuntime) -> Result<(), Fail> {
     let body = item_count_body(rt.alloc(), b"x", 1)?;
-    assert_eq!(rt; body.as_slice(), X_ONCE.as_slice());
-    let (item, count) = read_item_count(&X_ONCE).ok_or("it is an item and a count")?;
-    assert_eq!(rt; item, b"x".as_slice());
-    assert_eq!(rt; count, 1);
-    assert!(rt; read_item_count(&X_ONCE[..12]).is_none());
-    let longer = [1, 0, 0, 0, 120, 1, 0, 0, 0, 0, 0, 0, 0, 0];
-    assert!(rt; read_item_count(&longer).is_none());
+    assert_eq!(rt; body.as_slice(), &X_ONCE[..13]);
     Ok(())
+}
+
+#[test]
+fn a_whole_body_is_read(rt: HostRuntime) {
+    let read = [
+        read_item_count(&X_ONCE[..12]),
+        read_item_count(&X_ONCE[..13]),
+        read_item_count(&X_ONCE),
+    ];
+    let wanted: [Option<(&[u8], u64)>; 3] = [None, Some((b"x", 1)), None];
+    assert_eq!(rt; read, wanted);
 }
 
 #[test]

@@ -1,6 +1,5 @@
 //! All ranks of a world on one thread, with their barriers.
 ghost use Rattle.std.specs.Prelude.{◌≡◌, ◌≤◌, ◌<◌, IfOk, false, []};
-ghost use Rattle.ygm_route.specs.declared.scheme.Scheme.TheVariants.{Direct};
 ghost use Rattle.world_core.specs.Plain.{state_of};
 ghost use Rattle.world_core.specs.Post.{PostState, SamePost};
 ghost use Rattle.comm_rank.specs.Rank.{fresh_rank};
@@ -19,6 +18,12 @@ use std::sync::Wait;
 use std::test::*;
 use world_core::{Entry, Limits, PlainLinks};
 use ygm_route::{Layout, Scheme};
+
+// The most bytes of a batch of more than one letter.
+const BUFFER: u32 = 64;
+
+// The length of a body. Two letters with such bodies don't share a batch.
+const LONG: usize = 40;
 
 // Fails the test unless both are equal. The macro would be proved anew wherever it stands.
 pub(super) fn same<T: PartialEq + Debug + Drop>(rt: &impl Abort, found: T, wanted: T) {
@@ -47,18 +52,20 @@ pub(super) struct Member<H: Handler> {
 fn member_of(
     alloc: Global,
     layout: Layout,
+    scheme: Scheme,
     here: u32,
     limits: Limits,
 ) -> Result<Member<Relay>, Fail>
     requires below { here < layout.ranks }
-    ensures rank { IfOk result (λ member. member.comm ≡ fresh_rank layout Direct here limits.letters []) }
+    ensures rank { IfOk result (λ member. member.comm ≡ fresh_rank layout scheme here limits.letters []) }
     ensures barrier { IfOk result (λ member. member.barrier ≡ fresh_barrier layout here limits.rounds) }
 {
     let made = Comm::new(
         alloc,
         layout,
-        Scheme::Direct,
+        scheme,
         here,
+        BUFFER,
         limits,
         Relay::new(alloc),
     );
@@ -69,7 +76,7 @@ fn member_of(
 }
 
 impl<H: Handler> Member<H> {
-    // Outside a barrier, it sends a letter.
+    // Outside a barrier, it sends a letter, and closes its batch.
     fn send(&mut self, to: u32, tag: u8, body: Body) -> Result<(), Fail>
         ensures stands { (post : PostState) →
             (self.old.comm.stopped ≡ false → Stands H.apply H.start self.old.barrier self.old.comm post) →
@@ -83,6 +90,7 @@ impl<H: Handler> Member<H> {
             return Err("a data letter is for a rank of the world".into());
         }
         self.comm.send(to, tag, body)?;
+        self.comm.flush()?;
         Ok(())
     }
 
@@ -170,7 +178,31 @@ impl<H: Handler> Model for Ranks<H> {
         Stands H.apply H.start member.barrier member.comm (state_of ranks.links.value))) };
 }
 
-// The ranks of a world of so many, links that hold so many batches, and limits.
+// The ranks of a world, its links, which hold so many batches, and limits.
+pub(super) fn world_of(
+    alloc: Global,
+    layout: Layout,
+    scheme: Scheme,
+    ring: u32,
+    limits: Limits,
+) -> Result<Ranks<Relay>, Fail>
+    requires ring { 1 ≤ ring }
+{
+    let links = PlainLinks::new(alloc, layout, scheme, ring, limits)?;
+    let links = boxed(alloc, links)?;
+    let mut members = Vec::new(alloc);
+    for here in 0..layout.ranks() {
+        members.push(member_of(alloc, layout, scheme, here, limits)?)?;
+    }
+    Ok(Ranks {
+        alloc,
+        layout,
+        members,
+        links,
+    })
+}
+
+// The ranks of a world of so many, whose letters go straight to their destinations.
 pub(super) fn ranks_of(
     alloc: Global,
     ranks: u32,
@@ -179,19 +211,7 @@ pub(super) fn ranks_of(
 ) -> Result<Ranks<Relay>, Fail>
     requires ring { 1 ≤ ring }
 {
-    let layout = Layout::new(ranks, 1)?;
-    let links = PlainLinks::new(alloc, layout, Scheme::Direct, ring, limits)?;
-    let links = boxed(alloc, links)?;
-    let mut members = Vec::new(alloc);
-    for here in 0..ranks {
-        members.push(member_of(alloc, layout, here, limits)?)?;
-    }
-    Ok(Ranks {
-        alloc,
-        layout,
-        members,
-        links,
-    })
+    world_of(alloc, Layout::new(ranks, 1)?, Scheme::Direct, ring, limits)
 }
 
 // How many letters a rank sent, and how many ran there.
@@ -221,7 +241,7 @@ impl<H: Handler> Ranks<H> {
     }
 
     fn send_one(&mut self, from: u32, to: u32, tag: u8, first: u8) -> Result<(), Fail> {
-        let body = Body::of(self.alloc, &[first])?;
+        let body = Body::of(self.alloc, &[first; LONG])?;
         if from as usize >= self.members.len() {
             return Err("a rank of the world sends".into());
         }
@@ -319,6 +339,20 @@ impl<H: Handler> Ranks<H> {
         }
         Ok(counts)
     }
+
+    // How many letters of others a rank put.
+    pub(super) fn forwarded(&self, rank: u32) -> Result<u64, Fail> {
+        if rank >= self.layout.ranks() {
+            return Err("a rank of the world forwards".into());
+        }
+        let mut forwarded: u64 = 0;
+        for entry in self.links.world().log(rank) {
+            if is_of_other(entry, rank) {
+                forwarded = forwarded.saturating_add(1);
+            }
+        }
+        Ok(forwarded)
+    }
 }
 
 impl Ranks<Relay> {
@@ -337,6 +371,14 @@ fn is_count(entry: &Entry) -> bool {
                     Some(Control::Count { .. })
                 )
         }
+        Entry::Took { .. } => false,
+    }
+}
+
+// Whether the entry puts one letter, which another rank sent.
+fn is_of_other(entry: &Entry, rank: u32) -> bool {
+    match entry {
+        Entry::Put { letters, .. } => letters.count() == 1 && letters.letter_at(0).from != rank,
         Entry::Took { .. } => false,
     }
 }

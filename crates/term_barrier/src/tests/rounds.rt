@@ -1,12 +1,13 @@
 //! The rounds at which ranks leave their barriers, and what ran before.
 ghost use Rattle.std.specs.Prelude.{◌<◌};
 
-use super::ranks::{Ranks, ranks_of, same};
+use super::ranks::{Ranks, ranks_of, same, world_of};
 use super::relay::{ASK, NOTE, PASS, Relay};
 use std::process::Abort;
 use std::sync::Wait;
 use std::test::*;
 use world_core::Limits;
+use ygm_route::{Layout, Scheme};
 
 fn alone<R: Abort + Wait>(rt: &R, ranks: &mut Ranks<Relay>) -> Result<(), Fail> {
     let first = ranks.pass(rt, 0)?;
@@ -96,12 +97,13 @@ fn a_barrier_ends_after_letters_that_were_held_as_it_began(rt: HostRuntime) -> R
 }
 
 // Rank 0 counts before it is asked, and rank 1 after the first of two answers. So round 0 has the sums 1 and 1 while
-// the other answer is in its link.
+// the other answer is in its link, where the second poll after the question puts it.
 fn agree_by_chance(rt: &impl Abort, ranks: &mut Ranks<Relay>) -> Result<(), Fail> {
     ranks.enter(0)?;
     ranks.poll(0)?;
     ranks.send(1, 0, ASK, b"q")?;
     ranks.turn(1)?;
+    ranks.poll(0)?;
     ranks.poll(0)?;
     ranks.enter(1)?;
     ranks.poll(1)?;
@@ -163,4 +165,35 @@ fn three_barriers(rt: &impl Abort, ranks: &mut Ranks<Relay>) -> Result<(), Fail>
 #[test]
 fn each_barrier_ends_once_letters_were_passed_on_ten_times(rt: HostRuntime) -> Result<(), Fail> {
     three_barriers(&rt, &mut ranks_of(rt.alloc(), 3, 4, Limits::FULL)?)
+}
+
+// Ranks 0 and 2 are on two nodes, and send each other two letters. Each letter goes by ranks 1 and 3.
+fn by_gateways(rt: &impl Abort, ranks: &mut Ranks<Relay>) -> Result<(), Fail> {
+    ranks.send(0, 2, NOTE, b"ab")?;
+    ranks.send(2, 0, NOTE, b"xy")?;
+    ranks.enter_all()?;
+    let left = ranks.leave_all()?;
+    same(
+        rt,
+        (
+            left.len(),
+            ranks.rounds_ended()?.len(),
+            ranks.seen(0)?,
+            ranks.seen(2)?,
+        ),
+        (4, 1, b"xy".as_slice(), b"ab".as_slice()),
+    );
+    same(
+        rt,
+        (ranks.forwarded(1)?, ranks.forwarded(3)?, ranks.sums(1)?),
+        (4, 4, (0, 0)),
+    );
+    Ok(())
+}
+
+#[test]
+fn a_barrier_ends_once_forwarded_letters_ran(rt: HostRuntime) -> Result<(), Fail> {
+    let layout = Layout::new(4, 2)?;
+    let ranks = world_of(rt.alloc(), layout, Scheme::Nlnr, 4, Limits::FULL);
+    by_gateways(&rt, &mut ranks?)
 }

@@ -3,7 +3,7 @@ use Rattle.std.proofs.Common.{◌≡◌, ◌≢◌, ℕ, ◌<◌, false, Some, L
 use Rattle.std.proofs.lemmas.Bool.{cases_eq}
 use Rattle.std.proofs.lemmas.Option.{slice_get-get_or, slice_get_within}
 use Rattle.list_facts.proofs.Places.{item_kept, item_set, same_item}
-use Rattle.ygm_route.specs.declared.scheme.Scheme.TheVariants.{Direct}
+use Rattle.ygm_route.specs.declared.scheme.Scheme.{Scheme}
 use Rattle.ygm_route.specs.Layout.{Shape}
 use Rattle.world_core.specs.Plain.{fresh_links, state_of}
 use Rattle.world_core.specs.Post.{PostState, SamePost}
@@ -23,17 +23,17 @@ use Rattle.term_barrier.proofs.Polls.Stands.{stands_unchanged}
 
 module _ {C : Type 0} (apply : Applies C) (start : C → C) where
   -- a new rank, at new links
-  pub stands_new : (layout : Shape) (here most rounds ring batches : ℕ) (contents : C) → start contents ≡ contents → here < layout.ranks →
-      Stands apply start (fresh_barrier layout here rounds) (fresh_rank layout Direct here most contents)
-      (state_of (fresh_links layout Direct ring batches))
-  stands_new layout here most rounds ring batches contents fresh within =
-      let me : Rank C = fresh_rank layout Direct here most contents in
+  pub stands_new : (layout : Shape) (scheme : Scheme) (here most rounds ring batches : ℕ) (contents : C) → start contents ≡ contents → here < layout.ranks →
+      Stands apply start (fresh_barrier layout here rounds) (fresh_rank layout scheme here most contents)
+      (state_of (fresh_links layout scheme ring batches))
+  stands_new layout scheme here most rounds ring batches contents fresh within =
+      let me : Rank C = fresh_rank layout scheme here most contents in
       let barrier : BarrierState = fresh_barrier layout here rounds in
-      let none : log_of (fresh_links layout Direct ring batches).world here ≡ [] = none_new apply start layout most ring batches contents fresh here within in
+      let none : log_of (fresh_links layout scheme ring batches).world here ≡ [] = none_new apply start layout scheme most ring batches contents fresh here within in
       record {
-        belongs = belongs_new apply start layout most ring batches contents fresh here within;
+        belongs = belongs_new apply start layout scheme most ring batches contents fresh here within;
         may_turn = subst (λ log. MayTurn me log) (sym none) (may_turn_data me [] tt);
-        agrees = subst (λ log. BarrierAgrees barrier [] (local_of me log)) (sym none) (agrees_fresh layout Direct here rounds);
+        agrees = subst (λ log. BarrierAgrees barrier [] (local_of me log)) (sym none) (agrees_fresh layout scheme here rounds);
       }
 
   module _ (barrier : BarrierState) (me : Rank C) (post : PostState) (stands : Stands apply start barrier me post) where
@@ -87,18 +87,18 @@ module _ {C : Type 0} (apply : Applies C) (start : C → C) where
       all_set members old new rank now within all (here ∙ at.0) stands (subst (λ r. SamePost r old new) at.0 same)
 
   -- new ones, at new links
-  pub all_new : (layout : Shape) (most rounds ring batches : ℕ) (contents : C) (members : List (Member C)) →
+  pub all_new : (layout : Shape) (scheme : Scheme) (most rounds ring batches : ℕ) (contents : C) (members : List (Member C)) →
       start contents ≡ contents → length members ≡ layout.ranks →
       ((rank : ℕ) (member : Member C) → slice_get members rank ≡ Some member →
-      (member.comm ≡ fresh_rank layout Direct rank most contents) × (member.barrier ≡ fresh_barrier layout rank rounds)) →
-      AllStand members (state_of (fresh_links layout Direct ring batches))
-  all_new layout most rounds ring batches contents members fresh all each rank member e =
-      let links = state_of (fresh_links layout Direct ring batches) in
+      (member.comm ≡ fresh_rank layout scheme rank most contents) × (member.barrier ≡ fresh_barrier layout rank rounds)) →
+      AllStand members (state_of (fresh_links layout scheme ring batches))
+  all_new layout scheme most rounds ring batches contents members fresh all each rank member e =
+      let links = state_of (fresh_links layout scheme ring batches) in
       let is = each rank member e in
       let within : rank < layout.ranks = omega (arith, slice_get_within members rank member e, all) in
-      let stands = stands_new layout rank most rounds ring batches contents fresh within in (
+      let stands = stands_new layout scheme rank most rounds ring batches contents fresh within in (
         ap (λ (me : Rank C). me.here) is.0,
         λ going.
             subst (λ me. Stands apply start member.barrier me links) (sym is.0)
-            (subst (λ barrier. Stands apply start barrier (fresh_rank layout Direct rank most contents) links) (sym is.1) stands),
+            (subst (λ barrier. Stands apply start barrier (fresh_rank layout scheme rank most contents) links) (sym is.1) stands),
       )
