@@ -1,0 +1,4 @@
+pub mod Distinct
+pub mod Has
+pub mod Keys
+pub mod LastLetter
