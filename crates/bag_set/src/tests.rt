@@ -1,12 +1,7 @@
 use super::*;
-use comm_rank::Comm;
-use owner_send::{MAX_ITEM, key_body};
-use shard_rig::{Call, Draws, LoneShard, PlainShard, Ranks, RigFault};
-use std::alloc::{AllocError, Global};
 use std::fmt::Debug;
 use std::process::Abort;
 use std::test::*;
-use world_core::Limits;
 
 mod bags;
 mod sets;
