@@ -62,8 +62,10 @@ struct PlainSet {
 }
 
 impl PlainSet {
-    fn place(&self, item: u8) -> Option<usize> {
-        self.items.iter().position(|other| *other == item)
+    // The place of the item, or the number of items.
+    fn place(&self, item: u8) -> usize {
+        let place = self.items.iter().position(|other| *other == item);
+        place.unwrap_or(self.items.len())
     }
 }
 
@@ -82,13 +84,14 @@ impl PlainShard<Set> for PlainSet {
         let item = draws.below(8) as u8;
         let body = body_of(alloc, item)?;
         let place = self.place(item);
+        let known = place < self.items.len();
         if draws.below(3) == 0 {
-            if let Some(k) = place {
-                self.items.remove(k);
+            if known {
+                self.items.remove(place);
             }
             return Ok((ERASE, body));
         }
-        if place.is_none() {
+        if !known {
             self.items.push(item)?;
         }
         Ok((INSERT, body))
