@@ -10,7 +10,7 @@ ghost use Rattle.counting_set.specs.Counting.{add_letter};
 use crate::counting::{ADD, MAX_ITEM};
 use crate::item_count::item_count_body;
 use comm_rank::{Comm, CommFault, Handler};
-use part_hash::owner_of_key;
+use owner_send::send_to_owner;
 use std::alloc::Global;
 use ygm_taps::Tap;
 
@@ -31,6 +31,5 @@ pub fn count_insert<H: Handler, T: Tap>(
     ensures agrees { (log : List Entry) → Agrees H.apply H.start comm.old log → Agrees H.apply H.start comm.new log }
 {
     let body = item_count_body(alloc, item, 1)?;
-    let owner = owner_of_key(item, comm.ranks());
-    comm.send(owner, ADD, body)
+    send_to_owner(comm, item, ADD, body)
 }
