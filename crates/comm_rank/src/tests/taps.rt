@@ -1,4 +1,7 @@
 //! Ranks whose taps keep, or refuse, each letter that ran.
+ghost use Rattle.std.specs.Prelude.{◌≡◌, []};
+ghost use Rattle.ygm_taps.specs.Heard.{told_of};
+
 use super::queue_post::{Lone, QueuePost, lone_of};
 use super::{ANSWER, ASK, Echo, LONG, NOTE, same};
 use crate::CommFault;
@@ -27,8 +30,14 @@ impl Tap for FullTap {
         0
     }
 
-    fn entry(&self, _k: u64) -> Told<'_> {
-        unreachable!()
+    fn entry(&self, _k: u64) -> Told<'_>
+        ensures { told_of result ≡ record { from = 0; tag = 0; body = [] } }
+    {
+        Told {
+            from: 0,
+            tag: 0,
+            body: &[],
+        }
     }
 }
 
