@@ -1,0 +1,14 @@
+pub mod BadLines
+pub mod Balance
+pub mod Distinct
+pub mod Faults
+pub mod Input
+pub mod Items
+pub mod Job
+pub mod Jobs
+pub mod OwnLetters
+pub mod Runs
+pub mod Shards
+pub mod Tally
+pub mod ToSend
+pub mod Verdict
