@@ -1,5 +1,19 @@
 use super::*;
+use comm_rank::{Comm, CommFault};
+use shard_rig::{Call, Draws, LoneShard, PlainShard, Ranks, RigFault};
+use std::alloc::{AllocError, Global};
+use std::fmt::Debug;
+use std::process::Abort;
 use std::test::*;
+use world_core::Limits;
+
+mod bags;
+mod sets;
+
+// Fails the test unless both are equal. The macro would be proved anew wherever it stands.
+fn same<T: PartialEq + Debug + Drop>(rt: &impl Abort, found: T, wanted: T) {
+    assert_eq!(rt; found, wanted);
+}
 
 #[test]
 fn the_laws_can_be_cited() {
@@ -14,4 +28,16 @@ fn the_laws_can_be_cited() {
     sets_keep_their_order();
     sets_send_nothing();
     the_last_letter_decides();
+}
+
+fn can_be_sent<T: Send>(value: T) -> T {
+    value
+}
+
+#[test]
+fn shards_can_go_to_another_thread(rt: HostRuntime) -> Result<(), Fail> {
+    let bag = can_be_sent(Bag::new(rt.alloc())?);
+    let set = can_be_sent(Set::new(rt.alloc())?);
+    same(&rt, (bag.count_here(), set.count_here()), (0, 0));
+    Ok(())
 }
