@@ -1,5 +1,5 @@
 -- Ranks stay ready at their links: where one is added, makes a call or takes a turn.
-use Rattle.std.proofs.Common.{◌≡◌, ◌≢◌, ℕ, ◌+◌, ◌<◌, ◌≤◌, false, IsTrue, Some, List, [], ◌∷◌, ◌++◌, length, get_or, replicate, set, slice_get, sym, ap, ◌∙◌, subst, lt-ltb, inl, inr, arith, length-append, length-set}
+use Rattle.std.proofs.Common.{◌≡◌, ◌≢◌, ℕ, ◌<◌, ◌≤◌, false, IsTrue, Some, List, [], ◌∷◌, ◌++◌, length, get_or, replicate, set, sym, ap, ◌∙◌, subst, inl, inr, arith, length-append, length-set}
 use Rattle.std.proofs.lemmas.Bool.{cases_eq, cases_lt}
 use Rattle.std.proofs.lemmas.List.{get_or-replicate, get_or_past, length-replicate}
 use Rattle.std.proofs.lemmas.Option.{slice_get-get_or}
@@ -69,7 +69,7 @@ module _ {C : Type 0} (apply : Applies C) (start : C → C) where
     each = λ rank me e. absurd cc;
     not_added = λ rank later. elim (cases_lt rank layout.ranks) [
       | inl within ↦ get_or-replicate layout.ranks rank [] [] within
-      | inr past ↦ get_or_past (replicate layout.ranks []) rank [] (omega (arith, past, length-replicate layout.ranks []))
+      | inr past ↦ get_or_past (replicate layout.ranks []) rank [] (omega (arith, past, length-replicate {A = List Entry} layout.ranks []))
     ];
   }
 
