@@ -1,6 +1,7 @@
 #!/bin/sh
-# The text of a run doesn't depend on the layout: four files give the same bytes by any number of ranks, and any number of
-# cores that divides it. Silent where they do.
+# The text of a run doesn't depend on the layout, the scheme or the buffer: the same lines give the same bytes by each number
+# of ranks, each number of cores that divides it, each scheme, and the least and the greatest buffer. Of each four ranks
+# three have a file. Silent where all texts are the same.
 #
 #   sh checks/layouts.sh PROGRAM
 set -u
@@ -9,25 +10,34 @@ export LC_ALL
 program=$1
 space=$(mktemp -d) || exit 1
 trap 'rm -rf "$space"' EXIT
+tab=$(printf '\t')
 failures=0
-for file in 1 2 3 4; do
-    awk -v file="$file" 'BEGIN { for (k = 1; k <= 200; k++) print "key " k * k % (7 * file) }' >"$space/f$file" || exit 1
-done
-"$program" tally "$space"/f? >"$space/expected" || exit 1
+awk 'BEGIN { for (k = 1; k <= 300; k++) printf "key %d%*s\n", k * k % 211, k % 50 ? 0 : 100, "" }' >"$space/lines" || exit 1
+sort "$space/lines" | uniq -c | sed "s/^ *\([0-9]*\) /\1$tab/" >"$space/expected"
 [ -s "$space/expected" ] || exit 1
 
-# The ranks, and the cores that are tried with them.
-while read -r ranks all_cores; do
-    for cores in $all_cores; do
-        if ! "$program" tally --ranks "$ranks" --cores "$cores" "$space"/f? >"$space/out" || ! cmp "$space/expected" "$space/out" >&2; then
-            printf 'checks/layouts.sh: not the same text by %s ranks on nodes of %s cores\n' "$ranks" "$cores" >&2
-            failures=1
-        fi
+# same OPTION..: the program with these options writes the expected text.
+same() {
+    if ! "$program" tally "$@" "$space"/f? >"$space/out" || ! cmp "$space/expected" "$space/out" >&2; then
+        printf 'checks/layouts.sh: not the same text with %s\n' "$*" >&2
+        failures=$((failures + 1))
+    fi
+}
+
+ranks=0
+while [ "$ranks" -lt 32 ]; do
+    ranks=$((ranks + 1))
+    awk -v files="$((ranks - ranks / 4))" -v to="$space/f" '{ print >(to sprintf("%c", 65 + NR % files)) }' \
+        "$space/lines" || exit 1
+    cores=0
+    while [ "$cores" -lt "$ranks" ]; do
+        cores=$((cores + 1))
+        [ $((ranks % cores)) -eq 0 ] || continue
+        for scheme in none nr nlnr; do
+            for buffer in 64 65536; do
+                same --ranks "$ranks" --cores "$cores" --scheme "$scheme" --buffer "$buffer"
+            done
+        done
     done
-done <<'END'
-4 1 2 4
-5 1 5
-8 1 2 4 8
-32 1 2 4 8 16 32
-END
+done
 [ "$failures" -eq 0 ]

@@ -1,7 +1,7 @@
 #!/bin/sh
 # The help text, the man page, the completions and the tables of README.md and docs/formats.md name exactly the options
-# that the program takes, and where `man` is there it reads the page without a warning. Silent where all is as it
-# should be.
+# that the program takes, and the completions its schemes. Where `man` is there it reads the page without a warning. Silent
+# where all is as it should be.
 #
 #   sh checks/options.sh PROGRAM
 set -u
@@ -40,6 +40,18 @@ for list in "$space/of "*; do
     if ! cmp -s "$space/taken" "$list"; then
         printf 'checks/options.sh: the options %s differ from those that the program takes:\n' "${list##*/}" >&2
         diff "$space/taken" "$list" >&2
+        failures=1
+    fi
+done
+
+# The schemes that the program takes, of those in the code, are those that each completion gives.
+sed -n 's/.*"\([a-z]*\)" => Some(Scheme::.*/\1/p' crates/ygm_run/src/words.rt | sort | while read -r scheme; do
+    "$program" tally --scheme "$scheme" 2>&1 | grep -qx 'ygm_run: bad value' || echo "$scheme"
+done >"$space/schemes"
+for file in completions/*; do
+    sed -n "s/.*scheme.*[('\"]\(none[a-z ]*\).*/\1/p" "$file" | tr ' ' '\n' | sort >"$space/given"
+    if [ ! -s "$space/schemes" ] || ! cmp -s "$space/schemes" "$space/given"; then
+        printf 'checks/options.sh: the schemes of %s differ from those that the program takes\n' "$file" >&2
         failures=1
     fi
 done

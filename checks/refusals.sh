@@ -45,6 +45,8 @@ refused 'an option given twice' 1 'ygm_run: option given twice' tally --ranks 1 
 refused 'an option without a value' 1 'ygm_run: option without a value' tally --ranks
 refused 'a number that begins with 0' 1 'ygm_run: bad value' tally --ranks 01 lines
 refused 'another scheme' 1 'ygm_run: bad value' tally --scheme direct lines
+refused 'a buffer of 63 bytes' 1 'ygm_run: bad value' tally --buffer 63 lines
+refused 'a buffer of 65,537 bytes' 1 'ygm_run: bad value' tally --buffer 65537 lines
 refused 'no file' 1 'ygm_run: no file' tally
 refused 'more files than ranks' 1 'ygm_run: too many files' tally --ranks 2 lines lines lines
 refused 'cores that do not divide the ranks' 1 'ygm_run: layout' tally --ranks 6 --cores 4 lines

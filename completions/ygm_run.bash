@@ -16,13 +16,13 @@ _ygm_run() {
     done
     if [ "$place" -eq $((COMP_CWORD + 1)) ]; then
         case ${COMP_WORDS[COMP_CWORD - 1]} in
-            --ranks | --cores) return ;;
-            --scheme) mapfile -t COMPREPLY < <(compgen -W 'none' -- "$word") ;;
+            --ranks | --cores | --buffer) return ;;
+            --scheme) mapfile -t COMPREPLY < <(compgen -W 'none nr nlnr' -- "$word") ;;
         esac
         return
     fi
     if [ "$place" -eq "$COMP_CWORD" ] && [[ $word == -* ]]; then
-        mapfile -t COMPREPLY < <(compgen -W '--ranks --cores --scheme --' -- "$word")
+        mapfile -t COMPREPLY < <(compgen -W '--ranks --cores --scheme --buffer --' -- "$word")
         return
     fi
     compopt -o filenames 2>/dev/null

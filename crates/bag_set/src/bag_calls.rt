@@ -7,6 +7,7 @@ use crate::bag::INSERT;
 use comm_rank::{Comm, CommFault, Handler};
 use owner_send::{MAX_ITEM, key_body};
 use std::alloc::Global;
+use ygm_taps::Tap;
 
 /// The rank to which a rank's next item goes. A rank begins with its own number, and goes round.
 #[derive(Clone, Copy, Debug, PartialEq, Eq)]
@@ -17,9 +18,9 @@ pub struct BagTurn {
 /// Inserts an item, by a letter to the rank whose turn it is; the next one is for the rank after it. At
 /// `CommFault::CountFull` the rank has sent as many letters as it may; `CommFault::NoMemory` is lack of memory. After
 /// either the rank and the turn are unchanged.
-pub fn bag_insert<H: Handler>(
+pub fn bag_insert<H: Handler, T: Tap>(
     alloc: Global,
-    comm: &mut Comm<H>,
+    comm: &mut Comm<H, T>,
     bag: &mut BagTurn,
     item: &[u8],
 ) -> Result<(), CommFault>

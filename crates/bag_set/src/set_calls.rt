@@ -8,12 +8,13 @@ use crate::set::{ERASE, INSERT};
 use comm_rank::{Comm, CommFault, Handler};
 use owner_send::{MAX_ITEM, key_body, send_to_owner};
 use std::alloc::Global;
+use ygm_taps::Tap;
 
 /// Inserts an item, by a letter to the rank that owns it. At `CommFault::CountFull` the rank has sent as many letters as it
 /// may; `CommFault::NoMemory` is lack of memory. After either the rank is unchanged.
-pub fn set_insert<H: Handler>(
+pub fn set_insert<H: Handler, T: Tap>(
     alloc: Global,
-    comm: &mut Comm<H>,
+    comm: &mut Comm<H, T>,
     item: &[u8],
 ) -> Result<(), CommFault>
     requires short { length item.now ≤ MAX_ITEM }
@@ -25,9 +26,9 @@ pub fn set_insert<H: Handler>(
 }
 
 /// Erases an item, by a letter to the rank that owns it. Its faults are those of `set_insert`.
-pub fn set_erase<H: Handler>(
+pub fn set_erase<H: Handler, T: Tap>(
     alloc: Global,
-    comm: &mut Comm<H>,
+    comm: &mut Comm<H, T>,
     item: &[u8],
 ) -> Result<(), CommFault>
     requires short { length item.now ≤ MAX_ITEM }

@@ -1,11 +1,16 @@
 use super::*;
-use comm_rank::{Comm, CommFault};
-use shard_rig::{Call, Draws, LoneShard, PlainShard, Ranks, RigFault};
-use std::alloc::{AllocError, Global};
 use std::fmt::Debug;
 use std::process::Abort;
 use std::test::*;
 use world_core::Limits;
+
+mod bags;
+mod sets;
+
+// Fails the test unless both are equal. The macro would be proved anew wherever it stands.
+fn same<T: PartialEq + Debug + Drop>(rt: &impl Abort, found: T, wanted: T) {
+    assert_eq!(rt; found, wanted);
+}
 
 mod bags;
 mod sets;

@@ -5,4 +5,5 @@ pub mod Moves
 pub mod Rank
 pub mod Running
 pub mod Store
+pub mod Told
 pub mod Turns

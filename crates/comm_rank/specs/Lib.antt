@@ -7,4 +7,5 @@ pub mod Rank
 pub mod Running
 pub mod Sends
 pub mod Store
+pub mod Told
 pub mod Turns

@@ -1,7 +1,6 @@
 -- What a rank does as it puts what it holds. Only private functions cite this.
 use Rattle.std.specs.Prelude.{◌≡◌, ◌≢◌, ℕ, ◌+◌, ◌-◌, ◌^◌, ◌<◌, ◌≤◌, Bool, true, false, IsTrue, Option, None, List, [], ◌++◌, length, min}
 use Rattle.std.specs.List.{AllByRecursion}
-use Rattle.msg_codec.specs.declared.letter.Letter.{Letter}
 use Rattle.world_core.specs.declared.entry.Entry.{Entry}
 use Rattle.world_core.specs.Limits.{most_letters}
 use Rattle.world_core.specs.Log.{IsPut}

@@ -7,12 +7,13 @@ use Rattle.world_core.specs.declared.entry.Entry.{Entry}
 use Rattle.world_core.specs.Local.{Local, local_rank}
 use Rattle.send_buffers.specs.Buffers.{Queue, closed_up, empty_queue, queued}
 use Rattle.world_core.specs.Pairs.{of_pair, ran, ran_from as pair_ran, sent}
+use Rattle.ygm_taps.specs.Heard.{Heard}
 use Rattle.comm_rank.specs.Fold.{Applies, fold_from, handed_from}
 use Rattle.comm_rank.specs.Held.{Gains, NoneOpen}
 
 -- Its place in its world, how many letters it may send, what its handler keeps, its counts, the letters that it holds by
 -- the rank that they go to next, the letters that it took and that still wait, the control letters that it took and that
--- weren't handed over yet, and whether it is stopped.
+-- weren't handed over yet, whether it is stopped, and what its tap has heard.
 pub record Rank (C : Type 0) : Type 0 where
   pub layout : Shape
   pub scheme : Scheme
@@ -25,10 +26,11 @@ pub record Rank (C : Type 0) : Type 0 where
   pub waiting : List Letter
   pub controls : List Letter
   pub stopped : Bool
+  pub heard : Heard
 
--- a rank that has sent and run nothing
-abbrev pub fresh_rank : {C : Type 0} → Shape → Scheme → ℕ → ℕ → C → Rank C
-fresh_rank layout scheme here most contents = record {
+-- a rank that has sent and run nothing, with a tap that has heard this before
+abbrev pub fresh_rank : {C : Type 0} → Shape → Scheme → ℕ → ℕ → C → Heard → Rank C
+fresh_rank layout scheme here most contents heard = record {
   layout = layout;
   scheme = scheme;
   here = here;
@@ -40,6 +42,7 @@ fresh_rank layout scheme here most contents = record {
   waiting = [];
   controls = [];
   stopped = false;
+  heard = heard;
 }
 
 -- the rank as the rules see it, with its log
@@ -93,7 +96,7 @@ pub record HasFlushed {C : Type 0} (old new : Rank C) : Type 0 where
   pub same_letters : held_letters new ≡ held_letters old
   pub rank : new ≡ record old { held = new.held }
 
--- Letters ran at the rank: of it, only these fields changed.
+-- Letters ran at the rank, and its tap was given them: of it, only these fields changed.
 abbrev pub OnlyRan : {C : Type 0} → Rank C → Rank C → Type 0
 OnlyRan old new = new ≡ record old {
   contents = new.contents;
@@ -101,6 +104,7 @@ OnlyRan old new = new ≡ record old {
   run_count = new.run_count;
   held = new.held;
   waiting = new.waiting;
+  heard = new.heard;
 }
 
 -- It took batches, whose letters ran or wait, or it put letters into its links: of it, only these fields changed.
@@ -112,6 +116,7 @@ Worked old new = new ≡ record old {
   held = new.held;
   waiting = new.waiting;
   controls = new.controls;
+  heard = new.heard;
 }
 
 -- the same rank of the same world

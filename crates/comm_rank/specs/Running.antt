@@ -15,6 +15,7 @@ use Rattle.comm_rank.specs.Fold.{Applies}
 use Rattle.comm_rank.specs.Held.{AreData}
 use Rattle.comm_rank.specs.Moves.{SameOpen}
 use Rattle.comm_rank.specs.Rank.{Rank, folded, handed, held_letters, local_of}
+use Rattle.comm_rank.specs.Told.{HeardOrLacksLast, with_letters}
 use Rattle.comm_rank.specs.Turns.{Advanced, CutOff, HasBegun, IsCause, IsFullAfter, LookedAt, FullAtFirst, other_end}
 
 -- A data letter that a rank, one of so many, took: it is for this rank, or another rank sent it.
@@ -62,12 +63,14 @@ pub record GainsBoth (here : ℕ) (before after sent forwarded : List Letter) : 
   pub others : (from to : ℕ) → from ≢ here → of_pair from to after ≡ of_pair from to before ++ of_pair from to forwarded
   pub data_alone : AreData before → AreData after
 
--- Of these letters those for the rank ran, and all that the handler gave is held; the others are held to be forwarded.
+-- Of these letters those for the rank ran, and the tap heard them, and all that the handler gave is held; the others are
+-- held to be forwarded.
 pub record HasPassed {C : Type 0} (apply : Applies C) (old new : Rank C) (letters : List Letter) : Type 0 where
   pub contents : new.contents ≡ folded apply old (for_rank old.here letters)
   pub held : GainsBoth old.here (held_letters old) (held_letters new) (handed apply old (for_rank old.here letters)) (elsewhere old.here letters)
   pub run_count : new.run_count ≡ old.run_count + length (for_rank old.here letters)
   pub sent_count : new.sent_count ≡ old.sent_count + length (handed apply old (for_rank old.here letters))
+  pub told : new.heard ≡ with_letters old.heard (for_rank old.here letters)
 
 -- the letter that waited first ran or is held to be forwarded, and no longer waits
 pub record PassedFirst {C : Type 0} (apply : Applies C) (old new : Rank C) : Type 0 where
@@ -80,23 +83,16 @@ pub record PassedWaiting {C : Type 0} (apply : Applies C) (old new : Rank C) : T
   pub passed : HasPassed apply old new old.waiting
   pub nothing_waits : new.waiting ≡ []
 
--- ---- a letter that couldn't run or be forwarded
+-- ---- a letter that couldn't run or be forwarded, or that the tap couldn't keep
 
--- These letters passed, and the next one had not begun to run; or, of what the handler gave by it, only this first part
--- is held.
+-- These letters passed, though the tap may lack the last that ran. The next one had not begun to run; or, of what the
+-- handler gave by it, only this first part is held.
 pub record IsStuck {C : Type 0} (apply : Applies C) (old new : Rank C) (letters given : List Letter) : Type 0 where
   pub begun : HasBegun apply old.here old.layout.ranks (folded apply old (for_rank old.here letters)) new.contents new.waiting given
   pub held : GainsBoth old.here (held_letters old) (held_letters new) (handed apply old (for_rank old.here letters) ++ given) (elsewhere old.here letters)
   pub run_count : new.run_count ≡ old.run_count + length (for_rank old.here letters)
   pub sent_count : new.sent_count ≡ old.sent_count + length (handed apply old (for_rank old.here letters)) + length given
-
--- the letter that waits first couldn't
-pub record StuckFirst {C : Type 0} (apply : Applies C) (old new : Rank C) (fault : CommFault) : Type 0 where
-  pub given : List Letter
-  pub stuck : IsStuck apply old new [] given
-  pub still_waits : new.waiting ≡ old.waiting
-  pub full_at_first : IfCountFull fault (λ _. IsFullAfter apply old new [])
-  pub cause : IsCause apply old new fault
+  pub told : HeardOrLacksLast old.heard new.heard (for_rank old.here letters)
 
 -- the first of these letters, which waited, passed, and the others wait
 pub record StuckIn {C : Type 0} (apply : Applies C) (old new : Rank C) (waiting : List Letter) (fault : CommFault) : Type 0 where

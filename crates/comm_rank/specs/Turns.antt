@@ -18,6 +18,7 @@ use Rattle.comm_rank.specs.Fault.{GivesIfFull, IfCountFull, IsFullAt, NeverStopp
 use Rattle.comm_rank.specs.Fold.{Applies, given_by}
 use Rattle.comm_rank.specs.Held.{NoneClosed, NoneOpen}
 use Rattle.comm_rank.specs.Rank.{Rank, folded, halted, handed, held_letters, local_of, ran_at, sent_to}
+use Rattle.comm_rank.specs.Told.{HeardOrLacksLast, with_letters}
 
 -- ---- what its log gains
 
@@ -37,7 +38,7 @@ pub record Gained (before after taken placed : List Entry) : Type 0 where
 -- ---- what it ran and sent
 
 -- These letters ran at a rank, and no others: they are the last that ran there, its contents are folded by them, and what
--- its handler gave is the last that it sent, all of it and in order. Both are counted.
+-- its handler gave is the last that it sent, all of it and in order. Both are counted. They are the last that its tap heard.
 pub record Advanced {C : Type 0} (apply : Applies C) (old new : Rank C) (before after : List Entry) (run : List Letter) :
     Type 0 where
   pub ran : ran_at new after ≡ ran_at old before ++ run
@@ -45,6 +46,7 @@ pub record Advanced {C : Type 0} (apply : Applies C) (old new : Rank C) (before 
   pub sent : (to : ℕ) → sent_to new after to ≡ sent_to old before to ++ of_pair old.here to (handed apply old run)
   pub run_count : new.run_count ≡ old.run_count + length run
   pub sent_count : new.sent_count ≡ old.sent_count + length (handed apply old run)
+  pub told : new.heard ≡ with_letters old.heard run
 
 -- A turn that ended: all letters for the rank in the batches that it took ran, and the control letters wait to be handed
 -- over. It tells how many batches it took, and how many it put, at most the largest `u64`.
@@ -67,7 +69,7 @@ HasBegun apply here ranks before after waiting given =
     × (k < length (given_by apply here ranks before l)) × (given ≡ take k (given_by apply here ranks before l)))
 
 -- A turn that was cut off: of the letters for the rank in the batches that it took, the first ran, and the others wait.
--- The control letters wait to be handed over.
+-- The tap heard those that ran, or, out of memory, all of them but the last. The control letters wait to be handed over.
 pub record CutOff {C : Type 0} (apply : Applies C) (old new : Rank C) (before after : List Entry) : Type 0 where
   pub taken : List Entry
   pub placed : List Entry
@@ -81,13 +83,15 @@ pub record CutOff {C : Type 0} (apply : Applies C) (old new : Rank C) (before af
   pub sent : (to : ℕ) → sent_to new after to ≡ sent_to old before to ++ of_pair old.here to (handed apply old run ++ given)
   pub run_count : new.run_count ≡ old.run_count + length run
   pub sent_count : new.sent_count ≡ old.sent_count + length (handed apply old run) + length given
+  pub told : HeardOrLacksLast old.heard new.heard run
 
--- After these letters, which ran, one more is too many: with what the handler gives by the letter that waits first the
--- rank would have sent more than it may.
+-- After these letters, which ran and which the tap heard, one more is too many: with what the handler gives by the letter
+-- that waits first the rank would have sent more than it may.
 pub record IsFullAfter {C : Type 0} (apply : Applies C) (old new : Rank C) (run : List Letter) : Type 0 where
   pub next : Letter
   pub waits : slice_get new.waiting 0 ≡ Some next
   pub too_many : old.most < old.sent_count + length (handed apply old (run ++ next ∷ []))
+  pub told : new.heard ≡ with_letters old.heard run
 
 -- A full count came at the first letter that is too many: all letters before it ran.
 pub record FullAtFirst {C : Type 0} (apply : Applies C) (old new : Rank C) (before after : List Entry) : Type 0 where

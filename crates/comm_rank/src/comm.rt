@@ -23,12 +23,14 @@ use std::collections::VecDeque;
 use std::marker::Model;
 use world_core::{Limits, Post};
 use ygm_route::{Layout, Scheme};
+use ygm_taps::Tap;
 
-/// One rank of a world: its handler, and the letters that it holds until its links take them. Each turn is given the
-/// post through which the rank reaches its links. A turn puts data letters alone. The control letters that it takes
-/// reach no handler, and wait for `next_control`. After a turn that failed the rank is stopped for good.
+/// One rank of a world: its handler, the letters that it holds until its links take them, and a tap that it gives each
+/// letter that ran. Each turn is given the post through which the rank reaches its links. A turn puts data letters
+/// alone. The control letters that it takes reach no handler and no tap, and wait for `next_control`. After a turn that
+/// failed the rank is stopped for good.
 #[derive(Drop)]
-pub struct Comm<H> {
+pub struct Comm<H, T: Tap> {
     pub(crate) alloc: Global,
     pub(crate) layout: Layout,
     pub(crate) scheme: Scheme,
@@ -41,10 +43,11 @@ pub struct Comm<H> {
     pub(crate) controls: VecDeque<Control>,
     pub(crate) out: Outgoing,
     pub(crate) handler: H,
+    pub(crate) tap: T,
     pub(crate) stopped: bool,
 }
 
-impl<H> Model for Comm<H> {
+impl<H, T: Tap> Model for Comm<H, T> {
     ghost use Rattle.std.specs.Prelude.{◌≡◌, ◌<◌, [], map};
     ghost use Rattle.msg_codec.specs.Control.{letter_of_control};
     ghost use Rattle.comm_rank.specs.Rank.{Rank};
@@ -64,22 +67,25 @@ impl<H> Model for Comm<H> {
       waiting = comm.waiting;
       controls = map letter_of_control comm.controls.items;
       stopped = comm.stopped;
+      heard = T.heard comm.tap;
     } };
 
     ghost invariant = { λ comm. (comm.here < comm.layout.ranks) × (comm.sent.limit ≡ comm.limits.letters)
         × (comm.out.ranks ≡ comm.layout.ranks) × (comm.out.letters ≡ []) × AreOf comm.layout comm.scheme comm.here comm.held };
 }
 
-/// A rank that couldn't be made, for lack of memory: its handler.
+/// A rank that couldn't be made, for lack of memory: its handler and its tap.
 #[derive(Debug, Drop)]
-pub struct NotMade<H> {
+pub struct NotMade<H, T> {
     pub handler: H,
+    pub tap: T,
 }
 
-/// A rank that is done: its handler.
+/// A rank that is done: its handler and its tap.
 #[derive(Debug, Drop)]
-pub struct Finished<H> {
+pub struct Finished<H, T> {
     pub handler: H,
+    pub tap: T,
 }
 
 /// Counts a letter as sent, and holds it. A letter that is refused is neither counted nor held.
@@ -110,10 +116,10 @@ pub(crate) fn hold(
     Ok(())
 }
 
-impl<H: Handler> Comm<H> {
+impl<H: Handler, T: Tap> Comm<H, T> {
     /// Rank number `here`, which has sent and run nothing, with a handler that keeps what it starts with. It takes
     /// memory from `alloc`, also as it sends and as letters run. Its batches have at most `buffer` bytes, or one letter
-    /// alone. Out of memory, it hands the handler back.
+    /// alone. The tap keeps what it heard before. Out of memory, it hands the handler and the tap back.
     pub fn new(
         alloc: Global,
         layout: Layout,
@@ -122,17 +128,18 @@ impl<H: Handler> Comm<H> {
         buffer: u32,
         limits: Limits,
         handler: H,
-    ) -> Result<Comm<H>, NotMade<H>>
+        tap: T,
+    ) -> Result<Comm<H, T>, NotMade<H, T>>
         requires below { here < layout.ranks }
         requires least { min_buffer ≤ buffer }
         requires greatest { buffer ≤ max_buffer }
         requires fresh { H.start handler ≡ handler }
-        ensures made { IfOk result (λ comm. comm ≡ fresh_rank layout scheme here limits.letters handler) }
+        ensures made { IfOk result (λ comm. comm ≡ fresh_rank layout scheme here limits.letters handler (T.heard tap)) }
         ensures agrees { IfOk result (λ comm. Agrees H.apply H.start comm []) }
-        ensures handed_back { IfErr result (λ refused. refused.handler ≡ handler) }
+        ensures handed_back { IfErr result (λ refused. (refused.handler ≡ handler) × (refused.tap ≡ tap)) }
     {
         let Ok(held) = Buffers::new(alloc, layout, scheme, here, buffer) else {
-            return Err(NotMade { handler });
+            return Err(NotMade { handler, tap });
         };
         Ok(Comm {
             alloc,
@@ -147,6 +154,7 @@ impl<H: Handler> Comm<H> {
             controls: VecDeque::new(alloc),
             out: Outgoing::new(alloc, layout.ranks()),
             handler,
+            tap,
             stopped: false,
         })
     }
@@ -272,12 +280,14 @@ impl<H: Handler> Comm<H> {
         self.stopped
     }
 
-    /// Returns its handler. It takes no memory.
-    pub fn finish(self) -> Finished<H>
-        ensures { result.handler ≡ self.contents }
+    /// Returns its handler and its tap. It takes no memory.
+    pub fn finish(self) -> Finished<H, T>
+        ensures handler { result.handler ≡ self.contents }
+        ensures tap { T.heard result.tap ≡ self.heard }
     {
         Finished {
             handler: self.handler,
+            tap: self.tap,
         }
     }
 }

@@ -10,6 +10,7 @@ ghost use Rattle.comm_rank.specs.Turns.{PutsKeep};
 use crate::{Comm, CommFault, Handler};
 use send_buffers::Buffers;
 use world_core::{Post, PutBack};
+use ygm_taps::Tap;
 
 /// What a turn put for one next hop: how many batches, and whether the link was full.
 #[derive(Clone, Copy)]
@@ -107,7 +108,7 @@ fn put_each<P: Post>(
     Ok((put, full))
 }
 
-impl<H: Handler> Comm<H> {
+impl<H: Handler, T: Tap> Comm<H, T> {
     /// Puts the closed batches that the rank holds, next hop by next hop. It returns how many batches, at most `u64::MAX`, and the
     /// lowest rank to which the link was full.
     pub(crate) fn put_all<P: Post>(&mut self, post: &mut P) -> Result<(u64, Option<u32>), CommFault>

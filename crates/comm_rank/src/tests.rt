@@ -2,12 +2,13 @@ ghost use Rattle.std.specs.Prelude.{◌≡◌, ◌<◌, ◌≤◌, ◌+◌, ◌+
 ghost use Rattle.world_core.specs.declared.entry.Entry.{Entry};
 ghost use Rattle.world_core.specs.Plain.{state_of};
 ghost use Rattle.world_core.specs.Post.{SamePost};
-ghost use Rattle.ygm_route.specs.declared.scheme.Scheme.TheVariants.{Direct};
 ghost use Rattle.comm_rank.specs.Agrees.{Agrees, Belongs, PutsData};
 ghost use Rattle.comm_rank.specs.Rank.{IsSameRank, fresh_rank};
 
+mod paths;
 mod queue_post;
 mod rounds;
+mod taps;
 
 use super::*;
 use msg_codec::{Body, Counter, LetterRef};
@@ -18,6 +19,7 @@ use std::process::Abort;
 use std::test::*;
 use world_core::{Entry, Limits, PlainLinks, Post};
 use ygm_route::{Layout, Scheme};
+use ygm_taps::{QuietTap, Tap};
 
 // The tags of a letter that changes nothing else, of one that asks for two answers, and of an answer.
 const NOTE: u8 = 0;
@@ -25,6 +27,11 @@ const NOTE: u8 = 0;
 const ASK: u8 = 1;
 
 const ANSWER: u8 = 2;
+
+// A batch has at most so many bytes. Two letters with bodies so long don't share one.
+const BUFFER: u32 = 64;
+
+const LONG: usize = 40;
 
 // Keeps the first byte of each letter's body, and answers one that asks twice, to its sender: by its body, and by
 // an empty one.
@@ -105,40 +112,63 @@ fn same<T: PartialEq + Debug + Drop>(rt: &impl Abort, found: T, wanted: T) {
     assert_eq!(rt; found, wanted);
 }
 
-// A rank that has sent and run nothing.
-fn rank_of(alloc: Global, layout: Layout, here: u32, limits: Limits) -> Result<Comm<Echo>, Fail>
+// A rank that has sent and run nothing, with a tap.
+fn rank_of<T: Tap>(
+    alloc: Global,
+    layout: Layout,
+    scheme: Scheme,
+    here: u32,
+    limits: Limits,
+    tap: T,
+) -> Result<Comm<Echo, T>, Fail>
     requires below { here < layout.ranks }
-    ensures made { IfOk result (λ comm. comm ≡ fresh_rank layout Direct here limits.letters []) }
+    ensures made { IfOk result (λ comm. comm ≡ fresh_rank layout scheme here limits.letters [] (T.heard tap)) }
 {
     let echo = Echo {
         alloc,
         seen: Vec::new(alloc),
     };
-    let made = Comm::new(alloc, layout, Scheme::Direct, here, limits, echo);
+    let made = Comm::new(alloc, layout, scheme, here, BUFFER, limits, echo, tap);
     Ok(made.ok().ok_or("there is memory for a rank")?)
 }
 
-// A rank sends, if it isn't stopped.
-fn send_by<H: Handler>(
+// A rank sends a body of at most `LONG` bytes, if it isn't stopped.
+fn send_by<H: Handler, T: Tap>(
     alloc: Global,
-    comm: &mut Comm<H>,
+    comm: &mut Comm<H, T>,
     to: u32,
     tag: u8,
-    first: u8,
+    body: &[u8],
 ) -> Result<Result<(), CommFault>, Fail>
     ensures agrees { (log : List Entry) → Agrees H.apply H.start comm.old log → Agrees H.apply H.start comm.new log }
     ensures stopped { comm.new.stopped ≡ comm.old.stopped }
     ensures same { IsSameRank comm.old comm.new }
 {
-    if comm.is_stopped() || to >= comm.ranks() || tag >= 240 {
+    if comm.is_stopped() || to >= comm.ranks() || tag >= 240 || body.len() > LONG {
         return Err("a rank that isn't stopped sends to a rank of its world".into());
     }
-    Ok(comm.send(to, tag, Body::of(alloc, &[first])?))
+    Ok(comm.send(to, tag, Body::of(alloc, body)?))
+}
+
+// A rank closes its batches, if it isn't stopped.
+fn flush_by<H: Handler, T: Tap>(comm: &mut Comm<H, T>) -> Result<(), Fail>
+    ensures agrees { (log : List Entry) → Agrees H.apply H.start comm.old log → Agrees H.apply H.start comm.new log }
+    ensures stopped { comm.new.stopped ≡ comm.old.stopped }
+    ensures same { IsSameRank comm.old comm.new }
+{
+    if comm.is_stopped() {
+        return Err("a rank that isn't stopped closes its batches".into());
+    }
+    comm.flush()?;
+    Ok(())
 }
 
 // A turn. Of what it promises this is enough here: a rank that isn't stopped still belongs to the post,
 // and has put data letters alone.
-fn turn_of<H: Handler, P: Post>(comm: &mut Comm<H>, post: &mut P) -> Result<Turn, CommFault>
+fn turn_of<H: Handler, T: Tap, P: Post>(
+    comm: &mut Comm<H, T>,
+    post: &mut P,
+) -> Result<Turn, CommFault>
     requires going { comm.old.stopped ≡ false }
     requires belongs { Belongs H.apply H.start comm.old (P.state post.old) }
     requires data_alone { PutsData ((P.state post.old).log comm.old.here) }
@@ -150,13 +180,13 @@ fn turn_of<H: Handler, P: Post>(comm: &mut Comm<H>, post: &mut P) -> Result<Turn
     comm.turn(post)
 }
 
-// All ranks of a world, and its links. What is large is in a `Vec` and a `Box`. A rank that isn't stopped belongs to the
-// links, and has put data letters alone.
+// All ranks of a world, with quiet taps, and its links. What is large is in a `Vec` and a `Box`. A rank that isn't
+// stopped belongs to the links, and has put data letters alone.
 #[derive(Drop)]
 struct Ranks<H: Handler> {
     alloc: Global,
     layout: Layout,
-    comms: Vec<Comm<H>>,
+    comms: Vec<Comm<H, QuietTap>>,
     links: Box<PlainLinks>,
 }
 
@@ -176,16 +206,21 @@ impl<H: Handler> Model for Ranks<H> {
         Belongs H.apply H.start me (state_of ranks.links.value) × PutsData (log_of ranks.links.value.world me.here))) };
 }
 
-// The ranks of a world of so many, links that hold so many batches, and limits.
-fn ranks_of(alloc: Global, ranks: u32, ring: u32, limits: Limits) -> Result<Ranks<Echo>, Fail>
+// The ranks of a world with a layout and a scheme, links that hold so many batches, and limits.
+fn world_of(
+    alloc: Global,
+    layout: Layout,
+    scheme: Scheme,
+    ring: u32,
+    limits: Limits,
+) -> Result<Ranks<Echo>, Fail>
     requires { 1 ≤ ring }
 {
-    let layout = Layout::new(ranks, 1)?;
-    let links = PlainLinks::new(alloc, layout, Scheme::Direct, ring, limits)?;
+    let links = PlainLinks::new(alloc, layout, scheme, ring, limits)?;
     let links = boxed(alloc, links)?;
     let mut comms = Vec::new(alloc);
-    for here in 0..ranks {
-        comms.push(rank_of(alloc, layout, here, limits)?)?;
+    for here in 0..layout.ranks() {
+        comms.push(rank_of(alloc, layout, scheme, here, limits, QuietTap)?)?;
     }
     Ok(Ranks {
         alloc,
@@ -195,8 +230,15 @@ fn ranks_of(alloc: Global, ranks: u32, ring: u32, limits: Limits) -> Result<Rank
     })
 }
 
+// So many ranks, whose letters go straight to their destinations.
+fn ranks_of(alloc: Global, ranks: u32, ring: u32, limits: Limits) -> Result<Ranks<Echo>, Fail>
+    requires { 1 ≤ ring }
+{
+    world_of(alloc, Layout::new(ranks, 1)?, Scheme::Direct, ring, limits)
+}
+
 impl<H: Handler> Ranks<H> {
-    fn rank(&self, rank: u32) -> Result<&Comm<H>, Fail> {
+    fn rank(&self, rank: u32) -> Result<&Comm<H, QuietTap>, Fail> {
         Ok(self.comms.get(rank as usize).ok_or("there is such a rank")?)
     }
 
@@ -205,19 +247,19 @@ impl<H: Handler> Ranks<H> {
         from: u32,
         to: u32,
         tag: u8,
-        first: u8,
+        body: &[u8],
     ) -> Result<Result<(), CommFault>, Fail> {
         let rank = from as usize;
         if rank >= self.comms.len() {
             return Err("a rank of the world sends".into());
         }
-        send_by(self.alloc, &mut self.comms[rank], to, tag, first)
+        send_by(self.alloc, &mut self.comms[rank], to, tag, body)
     }
 
-    // Sends a letter for each byte of a text.
+    // Sends a letter for each byte of a text, each in a batch of its own.
     fn send(&mut self, from: u32, to: u32, tag: u8, text: &[u8]) -> Result<(), Fail> {
         for first in text {
-            self.try_send(from, to, tag, *first)??;
+            self.try_send(from, to, tag, &[*first; LONG])??;
         }
         Ok(())
     }
@@ -230,7 +272,17 @@ impl<H: Handler> Ranks<H> {
         Ok(turn_of(&mut self.comms[rank], &mut *self.links))
     }
 
+    fn flush(&mut self, rank: u32) -> Result<(), Fail> {
+        let rank = rank as usize;
+        if rank >= self.comms.len() {
+            return Err("a rank of the world closes its batches".into());
+        }
+        flush_by(&mut self.comms[rank])
+    }
+
+    // A turn that puts all that the rank held before.
     fn turn(&mut self, rank: u32) -> Result<Turn, Fail> {
+        self.flush(rank)?;
         Ok(self.try_turn(rank)??)
     }
 
@@ -242,18 +294,15 @@ impl<H: Handler> Ranks<H> {
         Ok(())
     }
 
-    // the destinations of the batches that a rank put, and the lengths of their first bodies, as the log has them
-    fn put_by(&self, rank: u32) -> Result<Vec<(u32, usize)>, Fail> {
+    // the ranks to which a rank put its batches, and how many letters each has
+    fn put_by(&self, rank: u32) -> Result<Vec<(u32, u64)>, Fail> {
         if rank >= self.layout.ranks() {
             return Err("a rank of the world puts".into());
         }
         let mut puts = Vec::new(self.alloc);
         for entry in self.links.world().log(rank) {
             if let Entry::Put { to, letters } = entry {
-                if letters.count() == 0 {
-                    return Err("a batch has a letter".into());
-                }
-                puts.push((*to, letters.letter_at(0).body.len()))?;
+                puts.push((*to, letters.count()))?;
             }
         }
         Ok(puts)
@@ -300,14 +349,14 @@ fn letters_go_straight_to_their_ranks(rt: HostRuntime) -> Result<(), Fail> {
 // Rank 0 asks, rank 1 answers twice, and rank 0 takes both answers.
 fn asked(rt: &impl Abort, ranks: &mut Ranks<Echo>) -> Result<(), Fail> {
     ranks.send(0, 1, ASK, b"q")?;
-    ranks.turns(&[0, 1, 0, 0])?;
+    ranks.turns(&[0, 1, 1, 0, 0])?;
     let (near, far) = (ranks.state(0)?, ranks.state(1)?);
     let put = ranks.put_by(1)?;
     same(
         rt,
         (put.as_slice(), near, far),
         (
-            [(0, 1), (0, 0)].as_slice(),
+            [(0, 1), (0, 1)].as_slice(),
             (b"q\0".as_slice(), 1, 2),
             (b"q".as_slice(), 2, 1),
         ),
@@ -356,7 +405,7 @@ fn sent_too_much(rt: &impl Abort, ranks: &mut Ranks<Echo>) -> Result<(), Fail> {
     ranks.send(0, 1, NOTE, b"a")?;
     ranks.send(0, 0, NOTE, b"b")?;
     let full = matches!(
-        ranks.try_send(0, 1, NOTE, b'c')?,
+        ranks.try_send(0, 1, NOTE, b"c")?,
         Err(CommFault::CountFull(_))
     );
     same(rt, (full, ranks.rank(0)?.sent_count()), (true, 2));
@@ -398,13 +447,13 @@ fn a_rank_whose_handler_sends_too_many_stops_all(rt: HostRuntime) -> Result<(), 
 // A rank that sends is no longer idle, and one that halts has raised the stop.
 fn sends_and_halts(
     rt: &impl Abort,
-    comm: &mut Comm<Echo>,
+    comm: &mut Comm<Echo, QuietTap>,
     links: &mut PlainLinks,
 ) -> Result<(), Fail>
     requires { IsTrue ((state_of links.old).serves comm.old.here) }
 {
     let before = (comm.is_idle(), comm.next_control().is_none());
-    send_by(comm.alloc, comm, 0, NOTE, b'a')??;
+    send_by(comm.alloc, comm, 0, NOTE, b"a")??;
     let here = comm.here();
     comm.halt(links);
     same(
@@ -419,7 +468,14 @@ fn sends_and_halts(
 #[test]
 fn a_rank_halts_by_itself(rt: HostRuntime) -> Result<(), Fail> {
     let layout = Layout::new(1, 1)?;
-    let mut comm = rank_of(rt.alloc(), layout, 0, Limits::FULL)?;
+    let mut comm = rank_of(
+        rt.alloc(),
+        layout,
+        Scheme::Direct,
+        0,
+        Limits::FULL,
+        QuietTap,
+    )?;
     let mut links = PlainLinks::new(rt.alloc(), layout, Scheme::Direct, 1, Limits::FULL)?;
     sends_and_halts(&rt, &mut comm, &mut links)
 }

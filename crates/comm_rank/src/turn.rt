@@ -12,7 +12,7 @@ ghost use Rattle.comm_rank.specs.Fold.{letter_by};
 ghost use Rattle.comm_rank.specs.Held.{Gains};
 ghost use Rattle.comm_rank.specs.Rank.{OnlyRan, Worked};
 ghost use Rattle.comm_rank.specs.Store.{IsSameStore};
-ghost use Rattle.comm_rank.specs.Running.{HasTakenAll, HasTakenFrom, IsControl, IsFirstFor, IsTaken, PassedFirst, PassedWaiting, StuckFirst, StuckIn, TakesKeep, WasCutFrom, WorkKeeps, begins_with_control};
+ghost use Rattle.comm_rank.specs.Running.{HasTakenAll, HasTakenFrom, IsControl, IsFirstFor, IsTaken, PassedFirst, PassedWaiting, StuckIn, TakesKeep, WasCutFrom, WorkKeeps, begins_with_control};
 ghost use Rattle.comm_rank.specs.Turns.{HasEnded, HasFailed, HasHalted, KeepsPost, WasCut};
 
 use crate::comm::hold;
@@ -21,6 +21,7 @@ use crate::{Comm, CommFault, Handler, Outgoing};
 use msg_codec::{Batch, Control, Counter, control_of};
 use send_buffers::Buffers;
 use world_core::{DATA_TAGS, Post};
+use ygm_taps::Tap;
 
 /// What a turn did.
 #[derive(Clone, Copy, Debug, PartialEq, Eq)]
@@ -79,19 +80,19 @@ fn begins_with_control(batch: &Batch) -> bool
     batch.count() > 0 && batch.letter_at(0).tag >= DATA_TAGS
 }
 
-impl<H: Handler> Comm<H> {
+impl<H: Handler, T: Tap> Comm<H, T> {
     /// A turn. It looks whether the stop is raised. Then it takes at most one batch from each link, in the order of
-    /// ranks. It runs the letters for this rank in order, and holds the others for their next hop; a control letter runs
-    /// nowhere, and waits for `next_control`. Last it puts the closed batches, next hop by next hop, until none remains or
-    /// the link is full.
+    /// ranks. It runs the letters for this rank in order, gives each to the tap once it ran, and holds the others for
+    /// their next hop; a control letter runs nowhere, and waits for `next_control`. Last it puts the closed batches, next
+    /// hop by next hop, until none remains or the link is full.
     ///
     /// In a barrier, a rank that took no letter for itself since its last Count may take a turn only while it holds no
     /// letter of its own.
     ///
     /// Where the stop is raised, it returns `Stopped` and does nothing. Where a letter can't be taken, run, held or put,
-    /// for lack of memory or because the handler gave a letter too many, this rank raises the stop. The letters that it
-    /// took and that haven't run wait for ever; its control letters still wait for `next_control`. After either fault
-    /// the rank is stopped.
+    /// for lack of memory or because the handler gave a letter too many, this rank raises the stop. So it does where the
+    /// tap has no memory for a letter that ran, which the tap then lacks. The letters that the rank took and that haven't
+    /// run wait for ever; its control letters still wait for `next_control`. After either fault the rank is stopped.
     pub fn turn<P: Post>(&mut self, post: &mut P) -> Result<Turn, CommFault>
         requires going { self.old.stopped ≡ false }
         requires belongs { Belongs H.apply H.start self.old (P.state post.old) }
@@ -199,7 +200,7 @@ impl<H: Handler> Comm<H> {
         requires taken { AllByRecursion (IsTaken self.old.layout.ranks self.old.here) self.old.waiting }
         requires few { self.old.run_count + length (for_rank self.old.here self.old.waiting) ≤ most_arrived }
         ensures passed { OnOk result (PassedFirst H.apply self.old self.new) }
-        ensures stuck { IfErr result (StuckFirst H.apply self.old self.new) }
+        ensures stuck { IfErr result (StuckIn H.apply self.old self.new self.old.waiting) }
         ensures rank { OnlyRan self.old self.new }
     {
         self.held.holds();
@@ -212,24 +213,27 @@ impl<H: Handler> Comm<H> {
         Ok(())
     }
 
-    /// Runs the letter that waits first. Where the handler refuses it, the rank is unchanged. Where one of the letters
-    /// that the handler gave can't be sent, those before it are, and the letter that ran still waits.
+    /// Runs the letter that waits first, and gives it to the tap. Where the handler refuses it, the rank is unchanged.
+    /// Where one of the letters that the handler gave can't be sent, those before it are, and the letter that ran still
+    /// waits. Where the tap refuses it, it ran and is counted.
     fn run_first(&mut self) -> Result<(), CommFault>
         requires some { 0 < length self.old.waiting }
         requires for_here { IsFirstFor self.old.here self.old.waiting }
         requires few { self.old.run_count < most_arrived }
         ensures passed { OnOk result (PassedFirst H.apply self.old self.new) }
-        ensures stuck { IfErr result (StuckFirst H.apply self.old self.new) }
+        ensures stuck { IfErr result (StuckIn H.apply self.old self.new self.old.waiting) }
         ensures rank { OnlyRan self.old self.new }
     {
-        self.handler
-            .run(self.here, self.waiting.first(), &mut self.out)?;
+        let letter = self.waiting.first();
+        self.handler.run(self.here, letter, &mut self.out)?;
         let most = self.limits.letters;
         let sent = send_out(self.here, &mut self.sent, most, &mut self.held, &self.out);
         self.out.cut(0);
         sent?;
         self.ran += 1;
+        let told = self.tap.ran(letter.from, letter.tag, letter.body);
         self.waiting.drop_first();
+        told?;
         Ok(())
     }
 }

@@ -1,4 +1,3 @@
 pub mod Counting
 pub mod ItemCount
-pub mod Owner
 pub mod Shown

@@ -1,23 +1,24 @@
 //! Adding to a counting set from any rank.
 ghost use Rattle.std.specs.Prelude.{◌≡◌, ◌≤◌, List, false, length, IfErr, IsErr, OnOk, OnErr};
+ghost use Rattle.part_hash.specs.Owner as spec;
 ghost use Rattle.world_core.specs.declared.entry.Entry.{Entry};
 ghost use Rattle.comm_rank.specs.Agrees.{Agrees};
 ghost use Rattle.comm_rank.specs.Fault.{IsFullAt, NeverStopped};
 ghost use Rattle.comm_rank.specs.Rank.{HasSent};
 ghost use Rattle.counting_set.specs.Counting.{add_letter};
-ghost use Rattle.counting_set.specs.Owner as spec;
 
 use crate::counting::{ADD, MAX_ITEM};
 use crate::item_count::item_count_body;
-use crate::owner::owner_of_key;
 use comm_rank::{Comm, CommFault, Handler};
+use owner_send::send_to_owner;
 use std::alloc::Global;
+use ygm_taps::Tap;
 
 /// Adds one of an item, by a letter to the rank that owns it. At `CommFault::CountFull` the rank has sent as many
 /// letters as it may; `CommFault::NoMemory` is lack of memory. After either the rank is unchanged.
-pub fn count_insert<H: Handler>(
+pub fn count_insert<H: Handler, T: Tap>(
     alloc: Global,
-    comm: &mut Comm<H>,
+    comm: &mut Comm<H, T>,
     item: &[u8],
 ) -> Result<(), CommFault>
     requires short { length item.now ≤ MAX_ITEM }
@@ -30,6 +31,5 @@ pub fn count_insert<H: Handler>(
     ensures agrees { (log : List Entry) → Agrees H.apply H.start comm.old log → Agrees H.apply H.start comm.new log }
 {
     let body = item_count_body(alloc, item, 1)?;
-    let owner = owner_of_key(item, comm.ranks());
-    comm.send(owner, ADD, body)
+    send_to_owner(comm, item, ADD, body)
 }

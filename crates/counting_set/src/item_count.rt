@@ -5,7 +5,8 @@ ghost use Rattle.msg_codec.specs.Limits.{max_body};
 ghost use Rattle.msg_codec.specs.Reading.{IsReading, body_reading, number_reading, pair_reading};
 ghost use Rattle.counting_set.specs.ItemCount.{item_count_of, spelled_item_count};
 
-use msg_codec::{Body, IN_PLACE, WireFault, body_at, length_field, number_at};
+use msg_codec::{Body, IN_PLACE, WireFault, body_at, number_at};
+use owner_send::key_body;
 use std::alloc::{AllocError, Global};
 
 /// The body that encodes a borrowed item and its count, as the pair of them is encoded. A short one is kept in
@@ -15,9 +16,7 @@ pub fn item_count_body(alloc: Global, item: &[u8], count: u64) -> Result<Body, A
     ensures value { IfOk result (λ body. body ≡ spelled_item_count item.now count) }
     ensures in_place { length item.now + 12 ≤ IN_PLACE → IsOk result }
 {
-    let mut body = Body::with_capacity(alloc, 12 + item.len())?;
-    body.append(&length_field(item))?;
-    body.append(item)?;
+    let mut body = key_body(alloc, item, 8)?;
     body.append(&count.to_le_bytes())?;
     Ok(body)
 }

@@ -5,7 +5,6 @@ mod counting;
 mod insert;
 mod item_count;
 mod laws;
-mod owner;
 
 pub use counting::{Counting, MAX_ITEM};
 pub use insert::count_insert;
@@ -15,7 +14,6 @@ pub use laws::{
     counts_are_sums, item_counts_are_pairs, item_counts_are_read_again, letters_add_up,
     no_item_stands_twice, no_two_item_counts_are_spelled_alike,
 };
-pub use owner::{fnv, owner_of_key};
 
 #[cfg(test)]
 mod tests;

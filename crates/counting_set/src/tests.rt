@@ -1,27 +1,16 @@
-ghost use Rattle.std.specs.Prelude.{◌≡◌, ◌≤◌, ◌<◌, List, [], false, length, IfOk};
+ghost use Rattle.std.specs.Prelude.{◌≡◌, ◌≤◌, ◌<◌, length, IfOk};
 ghost use Rattle.msg_codec.specs.Limits.{max_body};
-ghost use Rattle.world_core.specs.declared.entry.Entry.{Entry};
-ghost use Rattle.world_core.specs.Plain.{state_of};
-ghost use Rattle.world_core.specs.Post.{SamePost};
-ghost use Rattle.world_core.specs.World.{log_of};
-ghost use Rattle.ygm_route.specs.declared.scheme.Scheme.TheVariants.{Direct};
-ghost use Rattle.comm_rank.specs.Agrees.{Agrees, Belongs, PutsData};
-ghost use Rattle.comm_rank.specs.Rank.{IsSameRank, fresh_rank};
-ghost use Rattle.counting_set.specs.Counting.{counting_apply};
 
 use super::*;
-use comm_rank::{Comm, CommFault, Handler, Outgoing, Turn, a_turn_puts_data_letters_alone};
+use comm_rank::{Comm, Handler, Outgoing};
 use msg_codec::LetterRef;
+use shard_rig::{Call, Ranks, RigFault};
 use std::alloc::{AllocError, Global};
 use std::fmt::Debug;
-use std::marker::Model;
 use std::process::Abort;
 use std::test::*;
-use world_core::{Limits, PlainLinks};
-use ygm_route::{Layout, Scheme};
-
-// The most bytes of a batch of more than one letter.
-const BUFFER: u32 = 64;
+use world_core::Limits;
+use ygm_taps::QuietTap;
 
 // A value in a box. Its owner drops it by one call, whatever it holds.
 fn boxed<T: Drop>(alloc: Global, value: T) -> Result<Box<T>, Fail>
@@ -221,165 +210,43 @@ fn a_body_over_the_limit_adds_nothing(rt: HostRuntime) -> Result<(), Fail> {
     around_the_limit(&rt, rt.alloc(), &mut *empty(rt.alloc())?)
 }
 
-#[test]
-fn the_published_hashes(rt: HostRuntime) {
-    same(
-        &rt,
-        [fnv(b""), fnv(b"a"), fnv(b"foobar")],
-        [
-            0xcbf2_9ce4_8422_2325,
-            0xaf63_dc4c_8601_ec8c,
-            0x8594_4171_f739_67e8,
-        ],
-    );
-}
-
-#[test]
-fn a_key_belongs_to_its_hash_modulo_the_ranks(rt: HostRuntime) {
-    let owners = [
-        owner_of_key(b"a", 4),
-        owner_of_key(b"", 2),
-        owner_of_key(b"foobar", 1),
-    ];
-    same(&rt, owners, [0, 1, 0]);
-}
-
-// A rank that has sent and run nothing.
-fn rank_of(
-    alloc: Global,
-    layout: Layout,
-    here: u32,
-    limits: Limits,
-) -> Result<Box<Comm<Counting>>, Fail>
-    requires below { here < layout.ranks }
-    ensures made { IfOk result (λ comm. comm.value ≡ fresh_rank layout Direct here limits.letters []) }
-{
-    let counting = Counting::new(alloc)?;
-    let made = Comm::new(
-        alloc,
-        layout,
-        Scheme::Direct,
-        here,
-        BUFFER,
-        limits,
-        counting,
-    );
-    boxed(alloc, made.ok().ok_or("there is memory for a rank")?)
-}
-
-// A turn of a rank, if it isn't stopped.
-fn turn_of<H: Handler>(comm: &mut Comm<H>, links: &mut PlainLinks) -> Result<Turn, Fail>
-    requires belongs { comm.old.stopped ≡ false → Belongs H.apply H.start comm.old (state_of links.old) }
-    requires data_alone { comm.old.stopped ≡ false → PutsData (log_of links.old.world comm.old.here) }
-    ensures belongs { comm.new.stopped ≡ false → Belongs H.apply H.start comm.new (state_of links.new) }
-    ensures data_alone { comm.new.stopped ≡ false → PutsData (log_of links.new.world comm.new.here) }
-    ensures here { comm.new.here ≡ comm.old.here }
-    ensures same { SamePost comm.old.here (state_of links.old) (state_of links.new) }
-{
-    if comm.is_stopped() {
-        return Err("a rank that isn't stopped takes a turn".into());
-    }
-    a_turn_puts_data_letters_alone::<H>();
-    Ok(comm.turn(links)?)
-}
-
-// Inserts `a` once and the empty item twice, and closes the batches.
-fn insert_three(alloc: Global, comm: &mut Comm<Counting>) -> Result<(), Fail>
-    ensures agrees { (log : List Entry) → Agrees counting_apply (λ _. []) comm.old log → Agrees counting_apply (λ _. []) comm.new log }
-    ensures stopped { comm.new.stopped ≡ comm.old.stopped }
-    ensures same { IsSameRank comm.old comm.new }
-{
-    if comm.is_stopped() {
-        return Err("a rank that isn't stopped inserts".into());
-    }
-    count_insert(alloc, comm, b"a")?;
-    count_insert(alloc, comm, b"")?;
-    count_insert(alloc, comm, b"")?;
-    comm.flush()?;
-    Ok(())
-}
-
-// The ranks 0 and 1 of a world of two, and its links.
+// A rank inserts an item of one byte, or the empty one.
 #[derive(Drop)]
-struct Pair {
-    near: Box<Comm<Counting>>,
-    far: Box<Comm<Counting>>,
-    links: Box<PlainLinks>,
+struct Insert {
+    alloc: Global,
+    item: Option<u8>,
 }
 
-impl Model for Pair {
-    ghost use Rattle.std.specs.Prelude.{◌≡◌, [], false};
-    ghost use Rattle.world_core.specs.Plain.{Plain, state_of};
-    ghost use Rattle.world_core.specs.World.{log_of};
-    ghost use Rattle.comm_rank.specs.Agrees.{Belongs, PutsData};
-    ghost use Rattle.counting_set.specs.Counting.{counting_apply};
-
-    ghost Value = { Plain };
-
-    ghost view = { λ pair. pair.links.value };
-
-    ghost invariant = { λ pair. (pair.near.value.here ≡ 0) × (pair.far.value.here ≡ 1) × (pair.links.value.world.layout.ranks ≡ 2)
-        × (pair.near.value.stopped ≡ false → Belongs counting_apply (λ _. []) pair.near.value (state_of pair.links.value))
-        × (pair.near.value.stopped ≡ false → PutsData (log_of pair.links.value.world 0))
-        × (pair.far.value.stopped ≡ false → Belongs counting_apply (λ _. []) pair.far.value (state_of pair.links.value))
-        × (pair.far.value.stopped ≡ false → PutsData (log_of pair.links.value.world 1)) };
-}
-
-impl Pair {
-    // Both ranks have sent and run nothing.
-    fn new(alloc: Global) -> Result<Pair, Fail> {
-        let layout = Layout::new(2, 1)?;
-        let links = PlainLinks::new(alloc, layout, Scheme::Direct, 4, Limits::FULL)?;
-        let links = boxed(alloc, links)?;
-        let near = rank_of(alloc, layout, 0, Limits::FULL)?;
-        let far = rank_of(alloc, layout, 1, Limits::FULL)?;
-        Ok(Pair { near, far, links })
-    }
-
-    // Rank 1 inserts, and a turn puts its letters.
-    fn insert(&mut self, alloc: Global) -> Result<(), Fail> {
-        insert_three(alloc, &mut self.far)?;
-        turn_of(&mut self.far, &mut self.links)?;
+impl Call<Counting> for Insert {
+    fn make(&mut self, comm: &mut Comm<Counting, QuietTap>) -> Result<(), RigFault> {
+        match self.item {
+            Some(byte) => count_insert(self.alloc, comm, &[byte])?,
+            None => count_insert(self.alloc, comm, b"")?,
+        }
         Ok(())
     }
+}
 
-    // A turn of each rank. All letters have run then.
-    fn run_all(&mut self) -> Result<(), Fail> {
-        turn_of(&mut self.near, &mut self.links)?;
-        turn_of(&mut self.far, &mut self.links)?;
-        Ok(())
+fn ranks_of(alloc: Global, ranks: u32, limits: Limits) -> Result<Ranks<Counting>, RigFault> {
+    let mut all = Ranks::new(alloc, ranks, limits)?;
+    for _ in 0..ranks {
+        all.add(Counting::new(alloc)?)?;
     }
+    Ok(all)
+}
 
-    // How many batches wait in each link: from rank 0 to itself and to rank 1, and from rank 1 likewise.
-    fn waiting(&self) -> [usize; 4] {
-        let world = self.links.world();
-        [
-            world.link_len(0, 0),
-            world.link_len(0, 1),
-            world.link_len(1, 0),
-            world.link_len(1, 1),
-        ]
+// Rank 1 of two inserts `a` once and the empty item twice, and all letters run.
+fn insert_three(alloc: Global, ranks: &mut Ranks<Counting>) -> Result<(), RigFault> {
+    for item in [Some(b'a'), None, None] {
+        ranks.call(1, &mut Insert { alloc, item })?;
     }
+    ranks.run_all()
 }
 
-fn put_to_owners(rt: &impl Abort, alloc: Global, pair: &mut Pair) -> Result<(), Fail> {
-    pair.insert(alloc)?;
-    let far = (pair.far.sent_count(), pair.far.contents().len_here());
-    same(rt, (far, pair.waiting()), ((3, 0), [0, 0, 1, 1]));
-    Ok(())
-}
-
-#[test]
-fn inserts_are_put_into_the_links_to_the_owners(rt: HostRuntime) -> Result<(), Fail> {
-    put_to_owners(&rt, rt.alloc(), &mut Pair::new(rt.alloc())?)
-}
-
-// What both ranks keep once rank 1 has inserted and all letters ran.
-fn at_the_owners(rt: &impl Abort, alloc: Global, pair: &mut Pair) -> Result<(), Fail> {
-    pair.insert(alloc)?;
-    pair.run_all()?;
-    let near = pair.near.contents();
-    let far = pair.far.contents();
+// What both ranks keep then.
+fn at_the_owners(rt: &impl Abort, ranks: &Ranks<Counting>) -> Result<(), RigFault> {
+    let near = ranks.shard(0)?;
+    let far = ranks.shard(1)?;
     same(
         rt,
         (
@@ -395,7 +262,10 @@ fn at_the_owners(rt: &impl Abort, alloc: Global, pair: &mut Pair) -> Result<(), 
 
 #[test]
 fn an_item_goes_to_its_owner(rt: HostRuntime) -> Result<(), Fail> {
-    at_the_owners(&rt, rt.alloc(), &mut Pair::new(rt.alloc())?)
+    let mut ranks = ranks_of(rt.alloc(), 2, Limits::FULL)?;
+    insert_three(rt.alloc(), &mut ranks)?;
+    at_the_owners(&rt, &ranks)?;
+    Ok(())
 }
 
 const ONE_LETTER: Limits = Limits {
@@ -405,25 +275,26 @@ const ONE_LETTER: Limits = Limits {
 };
 
 // The second of two inserts is refused because the rank has sent as many letters as it may.
-fn second_refused(rt: &impl Abort, alloc: Global, comm: &mut Comm<Counting>) -> Result<(), Fail> {
-    if comm.is_stopped() {
-        return Err("a rank that isn't stopped inserts".into());
-    }
-    count_insert(alloc, comm, b"a")?;
-    let second = count_insert(alloc, comm, b"b");
-    let full = matches!(second, Err(CommFault::CountFull(_)));
-    same(rt, (full, comm.sent_count()), (true, 1));
+fn second_refused(
+    rt: &impl Abort,
+    alloc: Global,
+    ranks: &mut Ranks<Counting>,
+) -> Result<(), RigFault> {
+    let mut insert = Insert {
+        alloc,
+        item: Some(b'a'),
+    };
+    ranks.call(0, &mut insert)?;
+    let full = matches!(ranks.call(0, &mut insert), Err(RigFault::CountFull));
+    same(rt, (full, ranks.sent_count(0)?), (true, 1));
     Ok(())
 }
 
 #[test]
 fn a_rank_at_its_limit_inserts_nothing(rt: HostRuntime) -> Result<(), Fail> {
-    let layout = Layout::new(1, 1)?;
-    second_refused(
-        &rt,
-        rt.alloc(),
-        &mut *rank_of(rt.alloc(), layout, 0, ONE_LETTER)?,
-    )
+    let mut ranks = ranks_of(rt.alloc(), 1, ONE_LETTER)?;
+    second_refused(&rt, rt.alloc(), &mut ranks)?;
+    Ok(())
 }
 
 #[test]

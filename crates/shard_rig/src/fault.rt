@@ -16,18 +16,18 @@ pub enum RigFault {
     /// All ranks of the world were added already.
     #[error("all ranks were added")]
     AllAdded,
-    /// The rank failed in an earlier turn.
+    /// The rank failed in an earlier turn, or another rank raised the stop.
     #[error("the rank is stopped")]
     Stopped,
+    /// The rank has sent as many letters as it may.
+    #[error("the rank may send no more letters")]
+    CountFull,
     /// Letters were still on their way after so many turns.
     #[error("letters are on their way still")]
     Unsettled,
     /// A test gave bytes that don't fit into a letter.
     #[error("a letter is too long")]
     TooLong,
-    /// A call of the container, or a turn, failed so.
-    #[error("{0}")]
-    Comm(CommFault),
     /// Out of memory.
     #[error("out of memory")]
     NoMemory,
@@ -35,7 +35,11 @@ pub enum RigFault {
 
 impl From<CommFault> for RigFault {
     fn from(fault: CommFault) -> Self {
-        RigFault::Comm(fault)
+        match fault {
+            CommFault::Stopped => RigFault::Stopped,
+            CommFault::CountFull(_) => RigFault::CountFull,
+            CommFault::NoMemory => RigFault::NoMemory,
+        }
     }
 }
 

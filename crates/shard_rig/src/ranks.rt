@@ -13,6 +13,7 @@ use std::alloc::Global;
 use std::marker::Model;
 use world_core::{Limits, PlainLinks};
 use ygm_route::{Layout, Scheme};
+use ygm_taps::QuietTap;
 
 /// The most bytes of a batch of more than one letter.
 const BUFFER: u32 = 64;
@@ -26,20 +27,20 @@ const MOST_TURNS: u32 = 1000;
 /// A call of a container, which a test lets a rank make.
 pub trait Call<H: Handler> {
     /// Makes the call. The rank may send letters by itself, and nothing else of it changes.
-    fn make(&mut self, comm: &mut Comm<H>) -> Result<(), RigFault>
+    fn make(&mut self, comm: &mut Comm<H, QuietTap>) -> Result<(), RigFault>
         requires going { comm.old.stopped ≡ false }
         ensures agrees { (log : List Entry) → Agrees H.apply H.start comm.old log → Agrees H.apply H.start comm.new log }
         ensures rank { IsSameRank comm.old comm.new }
         ensures going { comm.new.stopped ≡ false };
 }
 
-/// The ranks of a world, whose letters go straight to their destinations. What is large is on the heap.
+/// The ranks of a world, with quiet taps, whose letters go straight to their destinations. What is large is on the heap.
 #[derive(Drop)]
 pub struct Ranks<H: Handler> {
     alloc: Global,
     layout: Layout,
     limits: Limits,
-    comms: Vec<Comm<H>>,
+    comms: Vec<Comm<H, QuietTap>>,
     links: Box<PlainLinks>,
 }
 
@@ -59,7 +60,7 @@ impl<H: Handler> Model for Ranks<H> {
 }
 
 // The rank makes a call, and closes its batches.
-fn make<H: Handler, C: Call<H>>(comm: &mut Comm<H>, call: &mut C) -> Result<(), RigFault>
+fn make<H: Handler, C: Call<H>>(comm: &mut Comm<H, QuietTap>, call: &mut C) -> Result<(), RigFault>
     ensures agrees { (log : List Entry) → Agrees H.apply H.start comm.old log → Agrees H.apply H.start comm.new log }
     ensures rank { IsSameRank comm.old comm.new }
     ensures stopped { comm.new.stopped ≡ comm.old.stopped }
@@ -73,7 +74,7 @@ fn make<H: Handler, C: Call<H>>(comm: &mut Comm<H>, call: &mut C) -> Result<(), 
 }
 
 // A turn of a rank. It returns whether the rank took or put a batch.
-fn turn<H: Handler>(comm: &mut Comm<H>, links: &mut PlainLinks) -> Result<bool, RigFault>
+fn turn<H: Handler>(comm: &mut Comm<H, QuietTap>, links: &mut PlainLinks) -> Result<bool, RigFault>
     requires ready { comm.old.stopped ≡ false → IsReady H.apply H.start comm.old (state_of links.old) }
     ensures ready { comm.new.stopped ≡ false → IsReady H.apply H.start comm.new (state_of links.new) }
     ensures here { comm.new.here ≡ comm.old.here }
@@ -118,6 +119,7 @@ impl<H: Handler> Ranks<H> {
             BUFFER,
             self.limits,
             shard,
+            QuietTap,
         );
         let Ok(comm) = made else {
             return Err(RigFault::NoMemory);
@@ -126,7 +128,7 @@ impl<H: Handler> Ranks<H> {
         Ok(())
     }
 
-    fn comm(&self, rank: u32) -> Result<&Comm<H>, RigFault> {
+    fn comm(&self, rank: u32) -> Result<&Comm<H, QuietTap>, RigFault> {
         self.comms.get(rank as usize).ok_or(RigFault::NoSuchRank)
     }
 

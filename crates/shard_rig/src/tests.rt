@@ -8,6 +8,7 @@ use std::fmt::Debug;
 use std::process::Abort;
 use std::test::*;
 use world_core::Limits;
+use ygm_taps::QuietTap;
 
 // A handler that keeps the tag of the last letter.
 #[derive(Drop)]
@@ -49,7 +50,7 @@ struct Send {
 }
 
 impl Call<LastTag> for Send {
-    fn make(&mut self, comm: &mut Comm<LastTag>) -> Result<(), RigFault> {
+    fn make(&mut self, comm: &mut Comm<LastTag, QuietTap>) -> Result<(), RigFault> {
         if self.to >= comm.ranks() || self.tag >= 240 {
             return Err(RigFault::NoSuchRank);
         }

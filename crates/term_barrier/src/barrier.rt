@@ -11,6 +11,7 @@ use std::alloc::{AllocError, Global};
 use std::marker::Model;
 use world_core::Limits;
 use ygm_route::Layout;
+use ygm_taps::Tap;
 
 /// The barriers of one rank, one after another. A barrier ends once all letters that ranks sent before they entered it have
 /// run, and all that handlers sent in turn. Ranks find that out by rounds, as in Mattern's counting: in a round each rank
@@ -73,7 +74,7 @@ impl Barrier {
 
     /// Begins the next barrier. Letters that the rank holds may still be held: polls put them before the rank counts. The
     /// rank sends no more by itself until it has left.
-    pub fn enter<H: Handler>(&mut self, comm: &mut Comm<H>)
+    pub fn enter<H: Handler, T: Tap>(&mut self, comm: &mut Comm<H, T>)
         requires going { comm.old.stopped ≡ false }
         requires outside { self.old.inside ≡ false }
         ensures inside { self.new ≡ record self.old { inside = true } }
@@ -98,7 +99,7 @@ impl Barrier {
     }
 
     /// Takes in all control letters that the rank took and that weren't handed over yet.
-    pub(crate) fn hear_all<H: Handler>(&mut self, comm: &mut Comm<H>)
+    pub(crate) fn hear_all<H: Handler, T: Tap>(&mut self, comm: &mut Comm<H, T>)
         requires room { HasRoom self.old comm.old.controls }
         ensures heard { self.new ≡ with_letters self.old comm.old.controls }
         ensures handed_over { comm.new ≡ record comm.old { controls = [] } }

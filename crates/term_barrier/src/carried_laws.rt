@@ -14,6 +14,7 @@ ghost use Rattle.comm_rank.specs.Agrees.{Agrees, Belongs};
 ghost use Rattle.comm_rank.specs.Fold.{Applies};
 ghost use Rattle.comm_rank.specs.Rank.{HasSent, IsSameRank, Rank, Worked, fresh_rank, held_letters, local_of};
 ghost use Rattle.comm_rank.specs.Turns.{HasEnded};
+ghost use Rattle.ygm_taps.specs.Heard.{Heard};
 ghost use Rattle.term_barrier.specs.declared.polled.Polled.TheVariants.{Left, Waiting as Waits};
 ghost use Rattle.term_barrier.specs.declared.polled.Waiting.{Waiting};
 ghost use Rattle.term_barrier.specs.Account.{handler_at, with_more};
@@ -31,8 +32,8 @@ use comm_rank::Handler;
 /// A new rank with a new barrier carries phase 0, without own letters. As long as it is outside, each own letter that it
 /// sends is one more of its phase.
 pub fn a_rank_outside_carries_its_own_letters<H: Handler>()
-    ensures new { (layout : Shape) (scheme : Scheme) (here most limit : ℕ) (contents : H) (rounds : ℕ → ℕ)
-        (post : PostState) → let me : Rank H = fresh_rank layout scheme here most contents in
+    ensures new { (layout : Shape) (scheme : Scheme) (here most limit : ℕ) (contents : H) (heard : Heard) (rounds : ℕ → ℕ)
+        (post : PostState) → let me : Rank H = fresh_rank layout scheme here most contents heard in
         Belongs H.apply H.start me post → post.log here ≡ [] →
         Carries H.apply H.start (λ phase to. []) rounds (fresh_barrier layout here limit) me post }
     ensures sent { (own : ℕ → ℕ → List Letter) (rounds : ℕ → ℕ) (barrier : BarrierState) (old new : Rank H) (l : Letter)

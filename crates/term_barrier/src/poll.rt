@@ -13,6 +13,7 @@ use crate::{Barrier, Polled, Waiting};
 use comm_rank::{Comm, CommFault, Handler, Turn};
 use std::sync::Wait;
 use world_core::Post;
+use ygm_taps::Tap;
 
 impl Barrier {
     /// Closes the rank's batches, gives it a turn, and then puts what is due of Counts and Totals. It returns whether the rank has left its
@@ -27,9 +28,9 @@ impl Barrier {
     /// It fails as `Comm::turn` does, and then the barrier is unchanged. Where it has no memory to put a Count or a Total, it
     /// returns `NoMemory`; the control letters that it took stay taken in. After a fault the rank is stopped, and unless it
     /// met the stop it has raised it.
-    pub fn poll<H: Handler, P: Post>(
+    pub fn poll<H: Handler, T: Tap, P: Post>(
         &mut self,
-        comm: &mut Comm<H>,
+        comm: &mut Comm<H, T>,
         post: &mut P,
     ) -> Result<Polled, CommFault>
         requires going { comm.old.stopped ≡ false }
@@ -52,10 +53,10 @@ impl Barrier {
     /// Enters the next barrier, and polls until the rank has left it. It returns the number of the barrier and the round
     /// that ended it, and fails as `poll` does. It waits for ever where another rank doesn't enter the barrier, or where no
     /// round is left.
-    pub fn barrier<R: Wait, H: Handler, P: Post>(
+    pub fn barrier<R: Wait, H: Handler, T: Tap, P: Post>(
         &mut self,
         rt: &R,
-        comm: &mut Comm<H>,
+        comm: &mut Comm<H, T>,
         post: &mut P,
     ) -> Result<(u64, u64), CommFault>
         requires going { comm.old.stopped ≡ false }
@@ -78,9 +79,9 @@ impl Barrier {
     }
 
     /// A poll of a rank whose batches are closed.
-    fn poll_flushed<H: Handler, P: Post>(
+    fn poll_flushed<H: Handler, T: Tap, P: Post>(
         &mut self,
-        comm: &mut Comm<H>,
+        comm: &mut Comm<H, T>,
         post: &mut P,
     ) -> Result<Polled, CommFault>
         requires going { comm.old.stopped ≡ false }
@@ -105,9 +106,9 @@ impl Barrier {
 
     /// What a poll does after its turn: it takes in the control letters, leaves where the barrier ended, and otherwise
     /// puts what is due.
-    fn after_turn<H: Handler, P: Post>(
+    fn after_turn<H: Handler, T: Tap, P: Post>(
         &mut self,
-        comm: &mut Comm<H>,
+        comm: &mut Comm<H, T>,
         post: &mut P,
         turn: Turn,
     ) -> Result<Polled, CommFault>

@@ -16,6 +16,7 @@ use comm_rank::{Comm, CommFault, Handler};
 use msg_codec::{Batch, Control};
 use std::alloc::Global;
 use world_core::{Post, PutBack};
+use ygm_taps::Tap;
 
 /// Puts a control letter, as the rank `here`, into its link to `to`. It returns whether the link wasn't full.
 fn put_letter<P: Post>(
@@ -47,7 +48,7 @@ fn destination(next: u32, ranks: u32) -> u32
 
 impl Barrier {
     /// Whether the Count of the next round is due: the rank knows each round before, may count one more, and is idle.
-    fn has_count_due<H: Handler>(&self, comm: &Comm<H>) -> bool
+    fn has_count_due<H: Handler, T: Tap>(&self, comm: &Comm<H, T>) -> bool
         ensures known { result ≡ true → self.now.counted ≤ self.now.known }
         ensures more { result ≡ true → self.now.counted < self.now.rounds }
         ensures idle { result ≡ true → IsIdle comm.now }
@@ -57,9 +58,9 @@ impl Barrier {
     }
 
     /// Puts the Count of the next round, where it is due. It returns rank 0 where the link to it was full.
-    pub(crate) fn put_count<H: Handler, P: Post>(
+    pub(crate) fn put_count<H: Handler, T: Tap, P: Post>(
         &mut self,
-        comm: &Comm<H>,
+        comm: &Comm<H, T>,
         post: &mut P,
     ) -> Result<Option<u32>, CommFault>
         requires stands { Stands H.apply H.start self.old comm.now (P.state post.old) }
@@ -144,9 +145,9 @@ impl Barrier {
     }
 
     /// Puts the Total of that round, with these sums, to the rank that is next. It returns whether the link wasn't full.
-    fn put_total<H: Handler, P: Post>(
+    fn put_total<H: Handler, T: Tap, P: Post>(
         &mut self,
-        comm: &Comm<H>,
+        comm: &Comm<H, T>,
         post: &mut P,
         to: u32,
         sums: RoundSums,
@@ -190,9 +191,9 @@ impl Barrier {
 
     /// Puts the Totals of that round, with these sums, to the other ranks in order, and to itself last. It returns the rank
     /// to which the link was full, where one was.
-    fn put_each_total<H: Handler, P: Post>(
+    fn put_each_total<H: Handler, T: Tap, P: Post>(
         &mut self,
-        comm: &Comm<H>,
+        comm: &Comm<H, T>,
         post: &mut P,
         sums: RoundSums,
     ) -> Result<Option<u32>, CommFault>
@@ -219,9 +220,9 @@ impl Barrier {
     }
 
     /// Puts the Totals that are due. It returns the rank to which the link was full, where one was.
-    fn put_totals<H: Handler, P: Post>(
+    fn put_totals<H: Handler, T: Tap, P: Post>(
         &mut self,
-        comm: &Comm<H>,
+        comm: &Comm<H, T>,
         post: &mut P,
     ) -> Result<Option<u32>, CommFault>
         requires stands { Stands H.apply H.start self.old comm.now (P.state post.old) }
@@ -243,9 +244,9 @@ impl Barrier {
     }
 
     /// Puts what is due of Counts and Totals. It returns the rank to which the link was full, where one was.
-    pub(crate) fn put_controls<H: Handler, P: Post>(
+    pub(crate) fn put_controls<H: Handler, T: Tap, P: Post>(
         &mut self,
-        comm: &Comm<H>,
+        comm: &Comm<H, T>,
         post: &mut P,
     ) -> Result<Option<u32>, CommFault>
         requires stands { Stands H.apply H.start self.old comm.now (P.state post.old) }

@@ -1,8 +1,6 @@
 pub mod CommandLine
 pub mod Ending
-pub mod Held
 pub mod Inputs
-pub mod Lines
 pub mod Notes
 pub mod RankJobs
 pub mod RankRuns
@@ -10,5 +8,4 @@ pub mod ReadLines
 pub mod Refusals
 pub mod TallyRun
 pub mod TallyText
-pub mod Turns
 pub mod Verdict

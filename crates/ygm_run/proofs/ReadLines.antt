@@ -1,2 +1,2 @@
+pub mod AllTaken
 pub mod FullFile
-pub mod LinesTaken

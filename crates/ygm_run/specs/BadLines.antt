@@ -1,9 +1,9 @@
 -- Which lines of a file are bad. `wrong` gives the reason for which a job refuses a raw line, if it does.
 use Rattle.std.specs.Prelude.{ℕ, ◌+◌, List, [], ◌∷◌, Option, None, Some, is_some, length, nat_lt, if◌then◌else◌}
 use Rattle.std.specs.Option.{option_map, option_or}
-use Rattle.ygm_run.specs.declared.status.LineWhy.{LineWhy}
-use Rattle.ygm_run.specs.declared.status.LineWhy.TheVariants.{TooLong}
-use Rattle.ygm_run.specs.Limits.{max_line}
+use Rattle.line_input.specs.declared.why.LineWhy.{LineWhy}
+use Rattle.line_input.specs.declared.why.LineWhy.TheVariants.{TooLong}
+use Rattle.line_input.specs.Limits.{max_line}
 
 -- the first bad line: its number, from 1, and why it is bad
 abbrev pub first_wrong : (List ℕ → Option LineWhy) → List (List ℕ) → Option (ℕ × LineWhy)

@@ -3,11 +3,11 @@ use Rattle.std.specs.Prelude.{◌≡◌, ◌↔◌, ℕ, ◌<◌, ◌≤◌, Lis
 use Rattle.ygm_io.specs.Content.{ExposedBytes, TakenFrom, NothingLeft}
 use Rattle.ygm_run.specs.declared.status.InputFault.{InputFault}
 use Rattle.ygm_run.specs.declared.status.InputFault.TheVariants.{Read, Bad}
-use Rattle.ygm_run.specs.declared.status.LineWhy.{LineWhy}
+use Rattle.line_input.specs.declared.why.LineWhy.{LineWhy}
 use Rattle.world_core.specs.Limits.{most_letters}
 use Rattle.ygm_run.specs.BadLines.{first_wrong, good_lines}
 use Rattle.ygm_run.specs.Job.{AreExposed, letters_bound, lines_of_each}
-use Rattle.ygm_run.specs.Lines.{raw_lines, ended_lines}
+use Rattle.line_input.specs.Lines.{raw_lines, ended_lines}
 
 -- what remains of a content: some prefix of it was taken
 abbrev pub IsRest : ExposedBytes → ExposedBytes → Type 0

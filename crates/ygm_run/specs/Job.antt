@@ -1,7 +1,7 @@
 -- What the job tally reads from its sources.
 use Rattle.std.specs.Prelude.{◌≡◌, ℕ, ◌+◌, ◌*◌, List, Some, map, length}
 use Rattle.ygm_io.specs.Content.{ExposedBytes}
-use Rattle.ygm_run.specs.Lines.{lines_of}
+use Rattle.line_input.specs.Lines.{lines_of}
 use Rattle.ygm_run.specs.TallyText.{all_lines, tally_text}
 
 -- all sources expose their bytes, and these are they

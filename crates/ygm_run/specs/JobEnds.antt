@@ -6,7 +6,7 @@ use Rattle.ygm_run.specs.declared.run_job.JobFault.{JobFault}
 use Rattle.ygm_run.specs.declared.run_job.JobFault.TheVariants.{Bad as JobBad, CountFull as JobFull, NoMemory as JobNoMemory, Read as JobRead}
 use Rattle.ygm_run.specs.declared.status.InputFault.{InputFault}
 use Rattle.ygm_run.specs.declared.status.InputFault.TheVariants.{Bad, Read}
-use Rattle.ygm_run.specs.declared.status.LineWhy.{LineWhy}
+use Rattle.line_input.specs.declared.why.LineWhy.{LineWhy}
 use Rattle.ygm_run.specs.declared.status.Status.{Status}
 use Rattle.ygm_run.specs.declared.status.Status.TheVariants.{BadLine, CountFull, NoMemory, ReadFault}
 use Rattle.ygm_run.specs.BadLines.{tally_wrong}

@@ -1,7 +1,6 @@
 -- How a run ends, as a number and as a note. A name is the list of its bytes.
 use Rattle.std.specs.Prelude.{◌≡◌, ℕ, ◌<◌, Bool, true, false, List, [], ◌++◌, codes, decimal, slice_get, unwrap_or}
-use Rattle.ygm_run.specs.declared.status.LineWhy.{LineWhy}
-use Rattle.ygm_run.specs.declared.status.LineWhy.TheVariants.{TooLong}
+use Rattle.line_input.specs.Why.{why_text}
 use Rattle.ygm_run.specs.declared.status.Status.{Status}
 use Rattle.ygm_run.specs.declared.status.Status.TheVariants.{Done, Usage, OpenFault, ReadFault, BadLine, WriteFault, NoMemory, CountFull}
 use Rattle.ygm_run.specs.Words.{kind_text}
@@ -16,10 +15,6 @@ number_of (BadLine rank line why) = 4
 number_of WriteFault = 5
 number_of NoMemory = 6
 number_of (CountFull rank at) = 7
-
--- what the note of a bad line says of it
-abbrev pub why_text : LineWhy → List ℕ
-why_text TooLong = codes "line too long"
 
 -- the name of a file, where it has one
 abbrev pub name_of : ℕ → List (List ℕ) → List ℕ

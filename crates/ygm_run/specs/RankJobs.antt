@@ -12,15 +12,16 @@ use Rattle.comm_rank.specs.Rank.{HasSent, Rank}
 use Rattle.term_barrier.specs.Barriers.{BarrierState}
 use Rattle.term_barrier.specs.Carried.{Carries}
 use Rattle.counting_set.specs.Counting.{Counts, add_letter, counting_apply}
-use Rattle.counting_set.specs.Owner.{owner_of_key}
+use Rattle.part_hash.specs.Owner.{owner_of_key}
 use Rattle.ygm_run.specs.declared.job.Step.{Step}
 use Rattle.ygm_run.specs.declared.job.Step.TheVariants.{Going, Finished}
 use Rattle.ygm_run.specs.declared.status.InputFault.{InputFault}
-use Rattle.ygm_run.specs.Lines.{text_of}
-use Rattle.ygm_run.specs.Reading.{Reading}
-use Rattle.ygm_run.specs.ReadLines.{EndedWith, HasLine, HasReadLines, IsFullFile, StopsAtPiece}
+use Rattle.line_input.specs.Lines.{text_of}
+use Rattle.line_input.specs.Reading.{Reading, fresh_reading}
+use Rattle.line_input.specs.Taken.{HasLine}
+use Rattle.ygm_run.specs.ReadLines.{EndedWith, HasReadLines, IsFullFile, StopsAtPiece}
 use Rattle.ygm_run.specs.TallyRun.{tally_letters}
-use Rattle.ygm_run.specs.Turns.{to_come}
+use Rattle.line_input.specs.Turns.{to_come}
 
 -- ---- what a rank reads
 
@@ -47,7 +48,7 @@ pub record JobState : Type 0 where
   pub fault : Option InputFault
 
 abbrev pub fresh_job : JobState
-fresh_job = record { reader = record { held = []; given = 0; done = false }; fault = None }
+fresh_job = record { reader = fresh_reading; fault = None }
 
 -- No line was taken, and the rank is unchanged; or it might send one letter more, and has sent that of this line.
 abbrev pub HasSentLines : Rank Counts → Rank Counts → List (List ℕ) → Type 0

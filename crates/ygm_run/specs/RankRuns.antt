@@ -1,7 +1,7 @@
 -- Only private functions cite this: the jobs of all ranks.
 use Rattle.std.specs.Prelude.{◌≡◌, ◌⊎◌, ℕ, ◌<◌, List, [], Option, None, Some, Result, Ok, Err, IfSome, IsOk, ⊤, length, map, slice_get}
 use Rattle.ygm_io.specs.Content.{ExposedBytes}
-use Rattle.ygm_route.specs.declared.scheme.Scheme.TheVariants.{Direct}
+use Rattle.ygm_route.specs.declared.scheme.Scheme.{Scheme}
 use Rattle.ygm_route.specs.Layout.{Shape}
 use Rattle.world_core.specs.Limits.{most_letters, most_rounds}
 use Rattle.world_core.specs.Plain.{Plain, fresh_links, state_of}
@@ -53,20 +53,21 @@ pub record AreRuns {S : Type 0} (left : S → ExposedBytes) (faults : S → ℕ)
       IsRun left faults layout rank (left_in left (slice_get start rank)) run (state_of links) (slice_get sources rank)
 
 -- a job that has read nothing, of a rank that has sent and run nothing and has entered no barrier
-pub record IsFreshRun (layout : Shape) (rank : ℕ) (run : RankRun) : Type 0 where
+pub record IsFreshRun (layout : Shape) (scheme : Scheme) (rank : ℕ) (run : RankRun) : Type 0 where
   pub job : run.job ≡ fresh_job
-  pub comm : run.comm ≡ fresh_rank layout Direct rank most_letters []
+  pub comm : run.comm ≡ fresh_rank layout scheme rank most_letters [] None
   pub agrees : Agrees counting_apply (λ _. []) run.comm []
   pub barrier : run.barrier ≡ fresh_barrier layout rank most_rounds
   pub going : run.ended ≡ None
 
 -- a new world: such a job for each rank, and links into which nothing was put
 pub record AreFresh (layout : Shape) (runs : List RankRun) (links : Plain) : Type 0 where
+  pub scheme : Scheme
   pub ring : ℕ
   pub batches : ℕ
-  pub links_are : links ≡ fresh_links layout Direct ring batches
+  pub links_are : links ≡ fresh_links layout scheme ring batches
   pub all : length runs ≡ layout.ranks
-  pub each : (rank : ℕ) (run : RankRun) → slice_get runs rank ≡ Some run → IsFreshRun layout rank run
+  pub each : (rank : ℕ) (run : RankRun) → slice_get runs rank ≡ Some run → IsFreshRun layout scheme rank run
 
 -- ---- how they ended
 

@@ -5,19 +5,14 @@ use Rattle.ygm_io.specs.Content.{ExposedBytes, TakenFrom, NothingLeft}
 use Rattle.world_core.specs.Limits.{most_letters}
 use Rattle.ygm_run.specs.declared.status.InputFault.{InputFault}
 use Rattle.ygm_run.specs.declared.status.InputFault.TheVariants.{Read, Bad}
-use Rattle.ygm_run.specs.declared.status.LineWhy.{LineWhy}
-use Rattle.ygm_run.specs.declared.status.LineWhy.TheVariants.{TooLong}
+use Rattle.line_input.specs.declared.why.LineWhy.{LineWhy}
+use Rattle.line_input.specs.declared.why.LineWhy.TheVariants.{TooLong}
 use Rattle.ygm_run.specs.BadLines.{first_wrong, tally_wrong}
-use Rattle.ygm_run.specs.Limits.{max_line, max_piece}
-use Rattle.ygm_run.specs.Lines.{lines_of, raw_lines, LacksLf, StartsTooLong}
-use Rattle.ygm_run.specs.Reading.{Reading}
-use Rattle.ygm_run.specs.Turns.{PieceBehind, RawLineTaken, to_come}
-
--- These raw lines were taken, the first ones. They come before the raw lines of any prefix of what is still to come.
-pub record LinesTaken (raws : List (List ℕ)) (before now : ExposedBytes) : Type 0 where
-  pub bytes : List ℕ
-  pub taken : TakenFrom bytes before now
-  pub lines : (front later : List ℕ) → now ≡ Some (front ++ later) → raw_lines (bytes ++ front) ≡ raws ++ raw_lines front
+use Rattle.line_input.specs.Limits.{max_line, max_piece}
+use Rattle.line_input.specs.Lines.{LacksLf, StartsTooLong, lines_of, raw_lines}
+use Rattle.line_input.specs.Reading.{Reading}
+use Rattle.line_input.specs.Turns.{PieceAppended, to_come}
+use Rattle.line_input.specs.Taken.{LinesTaken}
 
 -- These raw lines of a file were read, its first ones, and none is too long. `content` is what the file had at first, and
 -- `left` what remains of it.
@@ -33,18 +28,14 @@ EndedWith None reader left faults = (reader.held ≡ []) × NothingLeft left × 
 EndedWith (Some Read) reader left faults = (0 < faults) × LacksLf reader.held × (length reader.held ≤ max_line)
 EndedWith (Some (Bad line why)) reader left faults =
     IfSome (to_come reader.held left) StartsTooLong × (why ≡ TooLong) × (line ≡ reader.given + 1) × (faults ≡ 0)
-    × (before : List ℕ) × PieceBehind before reader.held
+    × (before : List ℕ) × PieceAppended before reader.held
 
 -- What was read before the piece that made a line bad has no bad line, and nothing was read after that piece.
 abbrev pub StopsAtPiece : ExposedBytes → ExposedBytes → Option InputFault → Type 0
-StopsAtPiece content left fault = (line : ℕ) (why : LineWhy) → fault ≡ Some (Bad line why) → (front piece : List ℕ)
-    × (length piece ≤ max_piece) × TakenFrom (front ++ piece) content left × (first_wrong tally_wrong (raw_lines front) ≡ None)
+StopsAtPiece content left fault = (line : ℕ) (why : LineWhy) → fault ≡ Some (Bad line why) → (prefix piece : List ℕ)
+    × (length piece ≤ max_piece) × TakenFrom (prefix ++ piece) content left × (first_wrong tally_wrong (raw_lines prefix) ≡ None)
 
 -- A count of letters is full at this limit, by the lines of a file: it has more lines than a rank may send letters.
 pub record IsFullFile (content : ExposedBytes) (limit : ℕ) : Type 0 where
   pub limit_is : limit ≡ most_letters
   pub lines : IfSome content (λ bytes. most_letters < length (lines_of bytes))
-
--- a line is to come that isn't too long
-abbrev pub HasLine : ExposedBytes → Type 0
-HasLine bytes = (text : List ℕ) × (rest : ExposedBytes) × RawLineTaken text bytes rest

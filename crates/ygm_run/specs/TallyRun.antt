@@ -5,7 +5,7 @@ use Rattle.msg_codec.specs.declared.letter.Letter.{Letter}
 use Rattle.comm_rank.specs.Fold.{fold_from}
 use Rattle.term_barrier.specs.CompleteRun.{Arrivals, IsCompleteRun, OwnLetters}
 use Rattle.counting_set.specs.Counting.{AddsSome, Counts, add_letter, adds_of, counting_apply}
-use Rattle.counting_set.specs.Owner.{owner_of_key}
+use Rattle.part_hash.specs.Owner.{owner_of_key}
 use Rattle.ygm_run.specs.TallyText.{times}
 
 -- The letters of a rank's lines to another rank: for each line that the other owns one that adds one of it, in order.

@@ -1,10 +1,10 @@
 -- What the bytes of the files decide: the text of a job, or the bad line that it reports in its place.
 use Rattle.std.specs.Prelude.{◌≡◌, ℕ, ◌+◌, ◌<◌, List, [], ◌∷◌, Option, None, Some, slice_get}
 use Rattle.std.specs.Option.{option_map, option_or}
-use Rattle.ygm_run.specs.declared.status.LineWhy.{LineWhy}
+use Rattle.line_input.specs.declared.why.LineWhy.{LineWhy}
 use Rattle.ygm_run.specs.BadLines.{first_wrong, tally_wrong}
 use Rattle.ygm_run.specs.Job.{lines_of_each}
-use Rattle.ygm_run.specs.Lines.{raw_lines}
+use Rattle.line_input.specs.Lines.{raw_lines}
 use Rattle.ygm_run.specs.TallyText.{tally_text}
 
 pub data Verdict : Type 0 where

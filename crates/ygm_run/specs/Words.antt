@@ -1,11 +1,12 @@
 -- What the program's words ask for, and why they are refused. A word is the list of its bytes.
-use Rattle.std.specs.Prelude.{◌≡◌, ◌≤◌, ℕ, ◌+◌, ◌-◌, ◌*◌, ◌%◌, Bool, false, List, [], ◌∷◌, Option, None, Some, Result, Ok, Err, String, bytes_eq, codes, find, length, map, nat_eq, nat_lt, not, ◌==◌, ◌||◌, option_and_then, string_bytes, unwrap_or, if◌then◌else◌}
+use Rattle.std.specs.Prelude.{◌≤◌, ℕ, ◌+◌, ◌-◌, ◌*◌, ◌%◌, Bool, false, List, [], ◌∷◌, Option, None, Some, Result, Ok, Err, String, bytes_eq, codes, find, length, map, nat_eq, nat_lt, not, ◌==◌, ◌||◌, option_and_then, string_bytes, unwrap_or, if◌then◌else◌}
 use Rattle.std.specs.Char.{is_ascii_digit}
 use Rattle.std.specs.List.{list_any, starts_with}
 use Rattle.std.specs.Option.{is_none, is_some}
 use Rattle.ygm_route.specs.declared.scheme.Scheme.{Scheme}
-use Rattle.ygm_route.specs.declared.scheme.Scheme.TheVariants.{Direct}
+use Rattle.ygm_route.specs.declared.scheme.Scheme.TheVariants.{Direct, Nlnr, Nr}
 use Rattle.ygm_route.specs.Layout.{IsLayout, max_ranks}
+use Rattle.send_buffers.specs.Limits.{max_buffer, min_buffer}
 use Rattle.ygm_run.specs.declared.run_job.JobKind.TheVariants.{Tally}
 use Rattle.ygm_run.specs.declared.run_job.Settings.{Settings}
 use Rattle.ygm_run.specs.declared.words.Form.{Form}
@@ -87,6 +88,8 @@ number_within least most text = option_and_then (if_within least most) (number_o
 abbrev pub scheme_of : List ℕ → Option Scheme
 scheme_of text =
     if bytes_eq text (codes "none") then Some Direct
+    else if bytes_eq text (codes "nr") then Some Nr
+    else if bytes_eq text (codes "nlnr") then Some Nlnr
     else None
 
 -- whether a text is of a form
@@ -100,12 +103,17 @@ is_of_form SchemeName text = is_some (scheme_of text)
 abbrev pub count_form : Form
 count_form = Number 0 999999
 
+-- the most bytes of a batch
+abbrev pub batch_form : Form
+batch_form = Number min_buffer max_buffer
+
 -- The table of the options: the form of the value of the option of this name, if the program has it.
 abbrev pub form_of : List ℕ → Option Form
 form_of name =
     if bytes_eq name (codes "--ranks") then Some count_form
     else if bytes_eq name (codes "--cores") then Some count_form
     else if bytes_eq name (codes "--scheme") then Some SchemeName
+    else if bytes_eq name (codes "--buffer") then Some batch_form
     else None
 
 -- whether an option has this name
@@ -135,6 +143,9 @@ cores_of command = unwrap_or (number_given (codes "--cores") command.options) 1
 
 abbrev pub scheme_in : Command → Scheme
 scheme_in command = unwrap_or (option_and_then scheme_of (value_of (codes "--scheme") command.options)) Direct
+
+abbrev pub buffer_of : Command → ℕ
+buffer_of command = unwrap_or (number_given (codes "--buffer") command.options) 16384
 
 -- ---- refusals
 
@@ -188,7 +199,8 @@ refusals = NoJob ∷ UnknownJob ∷ UnknownOption ∷ OptionTwice ∷ MissingVal
 pub record CanRun (settings : Settings) (files : ℕ) : Type 0 where
   pub laid_out : IsLayout settings.layout
   pub few : files ≤ settings.layout.ranks
-  pub direct : settings.scheme ≡ Direct
+  pub least : min_buffer ≤ settings.buffer
+  pub greatest : settings.buffer ≤ max_buffer
 
 -- a job with its settings, over the files of these names
 pub record Asked : Type 0 where
@@ -201,6 +213,7 @@ asked_by command = record {
     kind = Tally;
     layout = record { ranks = ranks_of command; cores = cores_of command };
     scheme = scheme_in command;
+    buffer = buffer_of command;
   };
   names = command.files;
 }

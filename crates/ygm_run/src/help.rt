@@ -26,7 +26,13 @@ Options, each at most once, before the files:
                  nothing
   --cores N      number of cores of a node, a divisor of the number of ranks
                  (default: 1)
-  --scheme NAME  how letters travel between ranks: none (default: none)
+  --scheme NAME  how letters travel between ranks (default: none):
+                 none  straight to the destination
+                 nr    to the sender's core of the other node, then within it
+                 nlnr  to the core of the sender's node that serves the other
+                       node, from there to that node, then within it
+  --buffer N     most bytes of a batch of letters, 64 to 65536; a letter with more
+                 travels alone (default: 16384)
   --             ends the options
 
 Exit status:

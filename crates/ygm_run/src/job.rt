@@ -12,15 +12,16 @@ ghost use Rattle.counting_set.specs.Counting.{counting_apply};
 ghost use Rattle.ygm_run.specs.Inputs.{IsRest};
 ghost use Rattle.ygm_run.specs.RankJobs.{FullAtLine, HasGoneOn, HasPolledOnce, HasReadOn, InJob, JobState, JobTurned, KeepsJob, fresh_job, left_in, source_after};
 
-use crate::line_reader::{Got, LineFault, LineReader};
-use crate::status::{InputFault, LineWhy};
+use crate::status::InputFault;
 use comm_rank::{Comm, CommFault};
 use counting_set::{Counting, count_insert};
+use line_input::{Got, LineFault, LineReader, LineWhy};
 use std::alloc::{AllocError, Global};
 use std::marker::Model;
 use term_barrier::{Barrier, Polled};
 use world_core::Post;
 use ygm_io::Source;
+use ygm_taps::Tap;
 
 /// What a turn of a job came to.
 #[derive(Clone, Copy, Debug, PartialEq, Eq)]
@@ -71,9 +72,9 @@ impl Job {
     /// has nothing to read.
     ///
     /// It fails as `Comm::turn` and `Comm::send` do, and with `NoMemory` where the reader has none.
-    pub(crate) fn turn<S: Source, P: Post>(
+    pub(crate) fn turn<T: Tap, S: Source, P: Post>(
         &mut self,
-        comm: &mut Comm<Counting>,
+        comm: &mut Comm<Counting, T>,
         barrier: &mut Barrier,
         post: &mut P,
         src: Option<&mut S>,
@@ -96,9 +97,9 @@ impl Job {
     }
 
     // A turn of the reader. The line that it returns is sent to its owner.
-    fn read_on<S: Source>(
+    fn read_on<T: Tap, S: Source>(
         &mut self,
-        comm: &mut Comm<Counting>,
+        comm: &mut Comm<Counting, T>,
         source: &mut S,
     ) -> Result<(), CommFault>
         requires open { self.old.reader.done ≡ false }
@@ -129,8 +130,8 @@ impl Job {
 
 // A turn outside the job's barrier, which the rank enters first where its reading has ended. No count of letters stops the
 // turn, since counting sends none.
-fn go_on<P: Post>(
-    comm: &mut Comm<Counting>,
+fn go_on<T: Tap, P: Post>(
+    comm: &mut Comm<Counting, T>,
     barrier: &mut Barrier,
     post: &mut P,
     ended: bool,
@@ -153,8 +154,8 @@ fn go_on<P: Post>(
 }
 
 // A poll of the job's barrier, which no count of letters stops, since counting sends none.
-fn wait<P: Post>(
-    comm: &mut Comm<Counting>,
+fn wait<T: Tap, P: Post>(
+    comm: &mut Comm<Counting, T>,
     barrier: &mut Barrier,
     post: &mut P,
 ) -> Result<Step, CommFault>

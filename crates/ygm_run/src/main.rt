@@ -4,14 +4,12 @@
 ghost use Rattle.std.specs.Prelude.{◌≡◌, ◌⊎◌, drop, IfErr, IfOk};
 ghost use Rattle.std.specs.Vec.Iter.{into_iter_items};
 
+pub mod bad_line_laws;
 pub mod ending_laws;
 mod help;
 mod job;
 pub mod limit_laws;
-pub mod line_laws;
-pub mod line_reader;
 pub mod note;
-mod pieces;
 mod ranks;
 pub mod run_job;
 mod running;

@@ -66,8 +66,8 @@ pub fn note_of(alloc: Global, status: &Status, names: &[String]) -> Result<Body2
 #[cfg(test)]
 mod tests {
     use super::*;
-    use crate::status::LineWhy;
     use crate::words::UsageKind;
+    use line_input::LineWhy;
     use msg_codec::Counter;
     use std::test::Fail;
 

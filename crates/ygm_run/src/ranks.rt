@@ -2,9 +2,9 @@
 ghost use Rattle.std.specs.Prelude.{◌≡◌, ◌<◌, ◌≤◌, ℕ, List, Some, None, true, length, map, slice_get, IfOk, IfErr, OnOk, IfNone, IfSome, IsSome, IsTrue};
 ghost use Rattle.std.specs.Option.{option_copied_mut};
 ghost use Rattle.ygm_io.specs.Content.{ExposedBytes};
-ghost use Rattle.ygm_route.specs.declared.scheme.Scheme.TheVariants.{Direct};
 ghost use Rattle.ygm_route.specs.Layout.{Shape, max_ranks};
 ghost use Rattle.world_core.specs.Post.{PostState, SamePost};
+ghost use Rattle.send_buffers.specs.Limits.{max_buffer, min_buffer};
 ghost use Rattle.comm_rank.specs.Rank.{IsSameRank};
 ghost use Rattle.ygm_run.specs.BadLines.{tally_wrong};
 ghost use Rattle.ygm_run.specs.Inputs.{AreRests, IsRest};
@@ -23,6 +23,7 @@ use term_barrier::Barrier;
 use world_core::{Limits, PlainLinks, Post};
 use ygm_io::{CalmSource, Source};
 use ygm_route::{Layout, Scheme};
+use ygm_taps::QuietTap;
 
 /// How many batches a link holds.
 const RING: u32 = 4;
@@ -31,25 +32,34 @@ const RING: u32 = 4;
 #[derive(Drop)]
 pub(crate) struct RankRun {
     pub(crate) job: Job,
-    pub(crate) comm: Comm<Counting>,
+    pub(crate) comm: Comm<Counting, QuietTap>,
     pub(crate) barrier: Barrier,
     /// How the job ended, if it has: it finished, or this fault stopped it.
     pub(crate) ended: Option<Result<(), CommFault>>,
 }
 
 impl RankRun {
-    fn new(alloc: Global, layout: Layout, scheme: Scheme, here: u32) -> Result<RankRun, AllocError>
+    fn new(
+        alloc: Global,
+        layout: Layout,
+        scheme: Scheme,
+        here: u32,
+        buffer: u32,
+    ) -> Result<RankRun, AllocError>
         requires below { here < layout.ranks }
-        requires direct { scheme ≡ Direct }
-        ensures fresh { IfOk result (IsFreshRun layout here) }
+        requires least { min_buffer ≤ buffer }
+        requires greatest { buffer ≤ max_buffer }
+        ensures fresh { IfOk result (IsFreshRun layout scheme here) }
     {
         let Ok(comm) = Comm::new(
             alloc,
             layout,
             scheme,
             here,
+            buffer,
             Limits::FULL,
             Counting::new(alloc)?,
+            QuietTap,
         ) else {
             return Err(AllocError);
         };
@@ -118,14 +128,21 @@ pub(crate) struct Ranks {
 }
 
 impl Ranks {
-    /// Jobs that have read nothing, over empty links.
-    pub(crate) fn new(alloc: Global, layout: Layout, scheme: Scheme) -> Result<Ranks, AllocError>
-        requires direct { scheme ≡ Direct }
+    /// Jobs that have read nothing, over empty links. The ranks gather letters into batches of at most `buffer` bytes, or
+    /// of one letter.
+    pub(crate) fn new(
+        alloc: Global,
+        layout: Layout,
+        scheme: Scheme,
+        buffer: u32,
+    ) -> Result<Ranks, AllocError>
+        requires least { min_buffer ≤ buffer }
+        requires greatest { buffer ≤ max_buffer }
         ensures fresh { IfOk result (λ ranks. AreFresh layout ranks.runs.items ranks.links) }
     {
         let mut runs = Vec::new(alloc);
         for here in 0..layout.ranks() {
-            runs.push(RankRun::new(alloc, layout, scheme, here)?)?;
+            runs.push(RankRun::new(alloc, layout, scheme, here, buffer)?)?;
         }
         Ok(Ranks {
             runs,

@@ -1,13 +1,14 @@
 //! A job over the files of all ranks.
 ghost use Rattle.std.specs.Prelude.{◌≡◌, ◌≤◌, ℕ, Some, length, map, slice_get, IfErr, IfOk};
-ghost use Rattle.ygm_route.specs.declared.scheme.Scheme.TheVariants.{Direct};
+ghost use Rattle.send_buffers.specs.Limits.{max_buffer, min_buffer};
 ghost use Rattle.ygm_run.specs.BadLines.{tally_wrong};
 ghost use Rattle.ygm_run.specs.Inputs.{AreRests};
 ghost use Rattle.ygm_run.specs.JobEnds.{HasRun, JobStops, fault_of};
 
 use crate::ranks::Ranks;
-use crate::status::{InputFault, LineWhy};
+use crate::status::InputFault;
 use counting_set::Counting;
+use line_input::LineWhy;
 use msg_codec::AtLimit;
 use std::alloc::{AllocError, Global};
 use std::sync::Wait;
@@ -27,6 +28,8 @@ pub struct Settings {
     pub kind: JobKind,
     pub layout: Layout,
     pub scheme: Scheme,
+    /// The most bytes of a batch of letters. A batch of one letter may have more.
+    pub buffer: u32,
 }
 
 /// Why a job has no shards. A full count comes before the fault of an input, since a rank that stops leaves files unread.
@@ -84,7 +87,8 @@ pub fn run_job<R: Wait, S: Source>(
     sources: Vec<S>,
 ) -> Ran<S>
     requires few { length sources.items ≤ settings.now.layout.ranks }
-    requires direct { settings.now.scheme ≡ Direct }
+    requires least { min_buffer ≤ settings.now.buffer }
+    requires greatest { settings.now.buffer ≤ max_buffer }
     requires fresh { (rank : ℕ) (source : S) → slice_get sources.items rank ≡ Some source → S.faults source ≡ 0 }
     ensures ran { IfOk result.outcome (λ shards.
         HasRun S.left S.faults settings.now.layout.ranks sources.items result.sources.items shards.items) }
@@ -94,7 +98,7 @@ pub fn run_job<R: Wait, S: Source>(
     ensures all { length result.sources.items ≡ length sources.items }
 {
     let mut sources = sources;
-    let outcome = match Ranks::new(alloc, settings.layout, settings.scheme) {
+    let outcome = match Ranks::new(alloc, settings.layout, settings.scheme, settings.buffer) {
         Ok(ranks) => ranks.run(rt, alloc, &mut sources),
         Err(_) => Err(JobFault::NoMemory),
     };

@@ -1,27 +1,10 @@
 //! How a run ends.
 ghost use Rattle.std.specs.Prelude.{◌≡◌};
-ghost use Rattle.ygm_run.specs.Notes.{number_of, why_text};
+ghost use Rattle.ygm_run.specs.Notes.{number_of};
 
 use crate::words::UsageKind;
+use line_input::LineWhy;
 use msg_codec::AtLimit;
-
-/// Why a line is bad.
-#[derive(Clone, Copy, Debug, PartialEq, Eq)]
-pub enum LineWhy {
-    /// The line has more than 1,000,000 bytes before its LF or the file's end.
-    TooLong,
-}
-
-impl LineWhy {
-    /// What the note of the line says.
-    pub fn text(&self) -> &'static str
-        ensures { result.now ≡ why_text self.now }
-    {
-        match self {
-            LineWhy::TooLong => "line too long",
-        }
-    }
-}
 
 /// Why a rank's file wasn't read to its end.
 #[derive(Clone, Copy, Debug, PartialEq, Eq)]

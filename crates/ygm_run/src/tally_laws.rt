@@ -4,7 +4,7 @@ ghost use Rattle.std.specs.Prelude.{◌≡◌, ◌^◌, ◌<◌, ◌≤◌, ℕ,
 ghost use Rattle.ygm_route.specs.Layout.{max_ranks};
 ghost use Rattle.world_core.specs.Limits.{most_letters};
 ghost use Rattle.counting_set.specs.Counting.{Counts};
-ghost use Rattle.ygm_run.specs.Limits.{max_line};
+ghost use Rattle.line_input.specs.Limits.{max_line};
 ghost use Rattle.ygm_run.specs.TallyRun.{CountLines, IsTally, IsTallyRun, own_letters};
 ghost use Rattle.ygm_run.specs.TallyText.{AreCounts, IsTableOf, all_lines, tally_text};
 

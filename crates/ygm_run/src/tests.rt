@@ -1,14 +1,15 @@
 //! Whole runs over objects in memory: that they succeed with ample memory, and worked examples.
+use crate::bad_line_laws::the_first_bad_line;
 use crate::ending_laws::only_memory_can_run_out;
-use crate::limit_laws::the_limits_are_these_numbers;
-use crate::line_laws::{lines_end_at_lf, one_cr_is_dropped, the_first_bad_line};
+use crate::limit_laws::the_limit_of_ranks_is_that_of_a_layout;
 use crate::run;
 use crate::run_job::{JobFault, JobKind, Ran, Settings, run_job};
-use crate::status::{Ended, LineWhy, Status};
+use crate::status::{Ended, Status};
 use crate::tally_text::{each_line_has_its_row, one_table, order_is_free, text_of_shards};
 use crate::verdict_laws::the_verdict_is_the_lowest_bad_line_or_the_text;
 use crate::words::UsageKind;
 use crate::words_laws::{the_refusal_is_the_first_that_holds, words_that_are_accepted};
+use line_input::LineWhy;
 use std::alloc::{AllocError, Global};
 use std::process::Abort;
 use std::sync::Wait;
@@ -142,6 +143,7 @@ fn a_rank_without_a_file_reads_nothing(rt: HostRuntime) -> Result<(), Fail> {
         kind: JobKind::Tally,
         layout: Layout::new(3, 1)?,
         scheme: Scheme::Direct,
+        buffer: 64,
     };
     let sources = vec![in alloc; MemSource::new(alloc, b"b\na\nb\n", &[])?]?;
     let Ran { outcome, sources } = run_job(&rt, alloc, &settings, sources);
@@ -163,6 +165,7 @@ fn a_job_ends_with_the_fault_of_an_input(rt: HostRuntime) -> Result<(), Fail> {
         kind: JobKind::Tally,
         layout: Layout::new(2, 1)?,
         scheme: Scheme::Direct,
+        buffer: 64,
     };
     let sources = vec![in alloc; MemSource::new(alloc, b"b\na\nb\n", &[0])?]?;
     let Ran { outcome, sources } = run_job(&rt, alloc, &settings, sources);
@@ -187,6 +190,30 @@ fn a_layout_changes_no_text(rt: HostRuntime) -> Result<(), Fail> {
     assert_eq!(rt; outcome.ended.status, Status::Done);
     assert_eq!(rt; outcome.ended.sources.len(), 2);
     assert_eq!(rt; outcome.out.bytes(), b"2\ta\n3\tb\n".as_slice());
+    Ok(())
+}
+
+// The worked run has its text by this scheme, over two nodes of two cores, with batches of at most so many bytes.
+fn has_text_by(
+    rt: &(impl Abort + Wait + AllocGlobal),
+    scheme: &str,
+    buffer: &str,
+) -> Result<(), Fail> {
+    let mut files = two_files(rt.alloc(), &[])?;
+    let words = [
+        "tally", "--ranks", "4", "--cores", "2", "--scheme", scheme, "--buffer", buffer, "f0", "f1",
+    ];
+    let outcome = run_over(rt, &mut files, &words)?;
+    assert_eq!(rt; outcome.out.bytes(), b"2\ta\n3\tb\n".as_slice());
+    Ok(())
+}
+
+#[test]
+fn routes_and_buffers_change_no_text(rt: HostRuntime) -> Result<(), Fail> {
+    for scheme in ["none", "nr", "nlnr"] {
+        has_text_by(&rt, scheme, "64")?;
+        has_text_by(&rt, scheme, "65536")?;
+    }
     Ok(())
 }
 
@@ -376,13 +403,11 @@ fn notes_that_fail_change_no_status(rt: HostRuntime) -> Result<(), Fail> {
 #[test]
 fn the_laws_can_be_cited() {
     each_line_has_its_row();
-    lines_end_at_lf();
-    one_cr_is_dropped();
     one_table();
     only_memory_can_run_out::<MemSource>();
     order_is_free();
     the_first_bad_line();
-    the_limits_are_these_numbers();
+    the_limit_of_ranks_is_that_of_a_layout();
     the_refusal_is_the_first_that_holds();
     the_verdict_is_the_lowest_bad_line_or_the_text();
     words_that_are_accepted();

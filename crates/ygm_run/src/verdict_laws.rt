@@ -1,6 +1,6 @@
 //! What the bytes of the files decide, as a law over its definition.
 ghost use Rattle.std.specs.Prelude.{◌≡◌, ◌↔◌, ℕ, List};
-ghost use Rattle.ygm_run.specs.declared.status.LineWhy.{LineWhy};
+ghost use Rattle.line_input.specs.declared.why.LineWhy.{LineWhy};
 ghost use Rattle.ygm_run.specs.BadLines.{tally_wrong};
 ghost use Rattle.ygm_run.specs.Job.{lines_of_each};
 ghost use Rattle.ygm_run.specs.TallyText.{tally_text};

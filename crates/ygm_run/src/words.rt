@@ -4,9 +4,10 @@ ghost use Rattle.std.specs.List.{list_any};
 ghost use Rattle.std.specs.Option.{option_copied};
 ghost use Rattle.ygm_run.specs.Notes.{note_line};
 ghost use Rattle.ygm_run.specs.CommandLine.{command_in, fewer_later, options_of, parts_by, passes};
-ghost use Rattle.ygm_run.specs.Words.{CanRun, asked_by, asked_in, command_of, cores_of, form_of, has_twice, holds, if_within, is_of_form, kind_text, number_after, number_given, number_within, order_of, parts_of, ranks_of, refusals, scheme_in, scheme_of, texts_of, value_of};
+ghost use Rattle.ygm_run.specs.Words.{CanRun, asked_by, asked_in, buffer_of, command_of, cores_of, form_of, has_twice, holds, if_within, is_of_form, kind_text, number_after, number_given, number_within, order_of, parts_of, ranks_of, refusals, scheme_in, scheme_of, texts_of, value_of};
 
 use crate::run_job::{JobKind, Settings};
+use send_buffers::{MAX_BUFFER, MIN_BUFFER};
 use ygm_route::{Layout, Scheme};
 
 /// The greatest number of ranks.
@@ -29,6 +30,12 @@ const DEFAULT_CORES: u32 = 1;
 
 /// The option that says how letters travel between ranks.
 const SCHEME: &str = "--scheme";
+
+/// The option that says how many bytes a batch of letters has at most.
+const BUFFER: &str = "--buffer";
+
+/// How many bytes a batch has at most if no option says it.
+const DEFAULT_BUFFER: u32 = 16_384;
 
 /// Why words are refused.
 #[derive(Clone, Copy, Debug, PartialEq, Eq)]
@@ -104,6 +111,12 @@ const COUNT: Form = Form::Number {
     most: 999_999,
 };
 
+/// The most bytes of a batch.
+const BATCH: Form = Form::Number {
+    least: MIN_BUFFER,
+    most: MAX_BUFFER,
+};
+
 impl Form {
     /// Whether the text is of this form.
     fn fits(self, text: &str) -> bool
@@ -124,6 +137,7 @@ fn form_of(name: &str) -> Option<Form>
         RANKS => Some(COUNT),
         CORES => Some(COUNT),
         SCHEME => Some(Form::SchemeName),
+        BUFFER => Some(BATCH),
         _ => None,
     }
 }
@@ -134,6 +148,8 @@ fn scheme_of(text: &str) -> Option<Scheme>
 {
     match text {
         "none" => Some(Scheme::Direct),
+        "nr" => Some(Scheme::Nr),
+        "nlnr" => Some(Scheme::Nlnr),
         _ => None,
     }
 }
@@ -365,6 +381,13 @@ impl<'a> Command<'a> {
             .unwrap_or(Scheme::Direct)
     }
 
+    // How many bytes a batch is to have at most.
+    fn buffer(&self) -> u32
+        ensures { result ≡ buffer_of (command_in self.now) }
+    {
+        number_given(BUFFER, self.words).unwrap_or(DEFAULT_BUFFER)
+    }
+
     // The table of the refusals: whether this one holds.
     fn holds(&self, kind: UsageKind) -> bool
         ensures { result ≡ holds (command_in self.now) kind }
@@ -415,6 +438,7 @@ impl<'a> Command<'a> {
                 kind: JobKind::Tally,
                 layout,
                 scheme: self.scheme(),
+                buffer: self.buffer(),
             },
             names: self.files,
         }
@@ -522,11 +546,14 @@ mod tests {
             &["tally", "--ranks"],
             "ygm_run: option without a value\n",
         )?;
-        reads(
-            &rt,
-            &["tally", "--ranks", "01", "a"],
-            "ygm_run: bad value\n",
-        )?;
+        for (name, value) in [
+            ("--ranks", "01"),
+            ("--scheme", "star"),
+            ("--buffer", "63"),
+            ("--buffer", "65537"),
+        ] {
+            reads(&rt, &["tally", name, value, "a"], "ygm_run: bad value\n")?;
+        }
         reads(&rt, &["tally", "--"], "ygm_run: no file\n")?;
         let few = ["tally", "--ranks", "2", "a", "b", "c"];
         reads(&rt, &few, "ygm_run: too many files\n")?;

@@ -1,4 +1,4 @@
--- Private: where the bodies of kept letters lie.
+-- Where the bodies of kept letters lie. Only private functions and types cite this.
 use Rattle.std.specs.Prelude.{ℕ, ◌+◌, ◌≤◌, List, length, take, drop}
 use Rattle.ygm_taps.specs.declared.kept_letters.Place.{Place}
 use Rattle.ygm_taps.specs.Heard.{RanLetter}

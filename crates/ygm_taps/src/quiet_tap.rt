@@ -26,7 +26,7 @@ impl Tap for QuietTap {
         0
     }
 
-    /// A letter of no bytes. No caller that goes by `len` reads it.
+    /// A letter without bytes. Callers that go by `len` never call this.
     fn entry(&self, _k: u64) -> Told<'_>
         ensures { told_of result ≡ record { from = 0; tag = 0; body = [] } }
     {

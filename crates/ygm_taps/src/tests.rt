@@ -30,19 +30,18 @@ fn list_of_three(alloc: Global, keep: bool) -> Result<ListTap, AllocError> {
 #[test]
 fn a_list_has_the_letters_in_order(rt: HostRuntime) -> Result<(), Fail> {
     let tap = list_of_three(rt.alloc(), true)?;
-    let told = [
-        entry(&tap, 0),
-        entry(&tap, 1),
-        entry(&tap, 2),
-        entry(&tap, 3),
-    ];
     let ran = [
-        (0, 1, b"ab".as_slice()),
-        (3, 16, b"".as_slice()),
-        (0, 1, b"cde".as_slice()),
-    ]
-    .map(|(from, tag, body)| Told { from, tag, body });
-    assert_eq!(rt; told, [Some(ran[0]), Some(ran[1]), Some(ran[2]), None]);
+        (0, 0, 1, b"ab".as_slice()),
+        (1, 3, 16, b"".as_slice()),
+        (2, 0, 1, b"cde".as_slice()),
+    ];
+    for (k, from, tag, body) in ran {
+        assert_eq!(rt;
+            entry(&tap, k),
+            Some(Told { from, tag, body }),
+            "letter {k}"
+        );
+    }
     Ok(())
 }
 

@@ -1,156 +1,25 @@
-//! Sets by themselves, and over the ranks of a world.
-use super::*;
+//! Sets over ranks, and a set by itself beside a plain list.
+use super::same;
+use crate::set::{ERASE, INSERT};
+use crate::{Set, set_erase, set_insert};
+use comm_rank::Comm;
+use shard_rig::{Call, Draws, LoneShard, PlainShard, Ranks, RigFault};
+use std::alloc::{AllocError, Global};
+use std::test::*;
+use world_core::Limits;
+use ygm_taps::QuietTap;
 
-// An empty set.
-fn empty(alloc: Global) -> Result<LoneShard<Set>, Fail> {
-    Ok(LoneShard::new(alloc, Set::new(alloc)?)?)
-}
-
-// The item with that number, if there is one.
-fn item(set: &Set, k: u64) -> Option<&[u8]> {
-    if k < set.count_here() {
-        Some(set.item_here(k))
-    } else {
-        None
-    }
-}
-
-// A set of items of one byte each, below 8, as the list of those bytes.
-#[derive(Drop)]
-struct PlainSet {
-    items: Vec<u8>,
-}
-
-impl PlainSet {
-    fn insert(&mut self, item: u8) -> Result<(), AllocError> {
-        if !self.items.contains(&item) {
-            self.items.push(item)?;
-        }
-        Ok(())
-    }
-
-    fn erase(&mut self, item: u8) {
-        self.items.retain(|other| *other != item);
-    }
-}
-
-impl PlainShard<Set> for PlainSet {
-    fn next_letter(
-        &mut self,
-        alloc: Global,
-        draws: &mut Draws,
-    ) -> Result<(u8, Vec<u8>), AllocError> {
-        let item = draws.below(8) as u8;
-        let tag = if draws.below(5) < 3 { 3 } else { 4 };
-        if tag == 3 {
-            self.insert(item)?;
-        } else {
-            self.erase(item);
-        }
-        Ok((tag, Vec::from_slice(alloc, &[1, 0, 0, 0, item])?))
-    }
-
-    fn is_kept_by(&self, set: &Set) -> bool {
-        for (k, byte) in self.items.iter().enumerate() {
-            if item(set, k as u64) != Some(&[*byte]) {
-                return false;
-            }
-        }
-        for byte in 0..8 {
-            if set.contains_here(&[byte]) != self.items.contains(&byte) {
-                return false;
-            }
-        }
-        set.count_here() == self.items.len() as u64
-    }
-}
-
-#[test]
-fn random_inserts_and_erases_are_those_of_a_plain_list(rt: HostRuntime) -> Result<(), Fail> {
-    let mut plain = PlainSet {
-        items: Vec::new(rt.alloc()),
-    };
-    let difference = empty(rt.alloc())?.first_difference(&mut plain, 400, 1)?;
-    same(&rt, difference, None);
-    Ok(())
-}
-
-// The bodies of `b`, of `a` and of the empty item.
-const B: [u8; 5] = [1, 0, 0, 0, 98];
-
-const A: [u8; 5] = [1, 0, 0, 0, 97];
-
-const EMPTY: [u8; 4] = [0; 4];
-
-// The number of items that are shown, and the first byte of each in order, where it has one.
-fn shown(set: &Set) -> (u64, [u8; 4]) {
-    let mut count = 0u64;
-    let mut firsts = [0u8; 4];
-    set.for_all(|item| {
-        if let Some(first) = item.first()
-            && count < 4
-        {
-            firsts[count as usize] = *first;
-        }
-        count = count.saturating_add(1);
-    });
-    (count, firsts)
-}
-
-// An item that is inserted again goes last, and others move up.
-fn moved_up(rt: &impl Abort, set: &mut LoneShard<Set>) -> Result<(), Fail> {
-    for (tag, body) in [
-        (3, B.as_slice()),
-        (3, &EMPTY),
-        (3, &A),
-        (3, &B),
-        (4, &B),
-        (3, &B),
-    ] {
-        set.run(tag, body)?;
-    }
-    same(rt, shown(set.shard()), (3, [0, b'a', b'b', 0]));
-    Ok(())
-}
-
-#[test]
-fn items_are_shown_in_the_order_of_insertion(rt: HostRuntime) -> Result<(), Fail> {
-    moved_up(&rt, &mut empty(rt.alloc())?)
-}
-
-// A letter with a bag's tag and one without its last byte change nothing. No letter sends any.
-fn others(rt: &impl Abort, set: &mut LoneShard<Set>) -> Result<(), Fail> {
-    let sent = [
-        set.run(3, &B)?,
-        set.run(2, &A)?,
-        set.run(4, &B[..4])?,
-        set.run(4, &A)?,
-    ];
-    let set = set.shard();
-    same(
-        rt,
-        (sent, item(set, 0), set.count_here()),
-        ([0, 0, 0, 0], Some(b"b".as_slice()), 1),
-    );
-    Ok(())
-}
-
-#[test]
-fn other_letters_change_nothing(rt: HostRuntime) -> Result<(), Fail> {
-    others(&rt, &mut empty(rt.alloc())?)
-}
-
-// An insert or an erase of an item.
+// A rank inserts an item of one byte, or erases it.
 #[derive(Drop)]
 struct Change {
     alloc: Global,
-    erases: bool,
+    erase: bool,
     item: u8,
 }
 
 impl Call<Set> for Change {
-    fn make(&mut self, comm: &mut Comm<Set>) -> Result<(), RigFault> {
-        if self.erases {
+    fn make(&mut self, comm: &mut Comm<Set, QuietTap>) -> Result<(), RigFault> {
+        if self.erase {
             set_erase(self.alloc, comm, &[self.item])?;
         } else {
             set_insert(self.alloc, comm, &[self.item])?;
@@ -159,37 +28,93 @@ impl Call<Set> for Change {
     }
 }
 
-// Two ranks with empty sets.
-fn two_ranks(alloc: Global) -> Result<Ranks<Set>, Fail> {
-    let mut ranks = Ranks::new(alloc, 2, Limits::FULL)?;
-    ranks.add(Set::new(alloc)?)?;
-    ranks.add(Set::new(alloc)?)?;
-    Ok(ranks)
-}
-
-// Rank 0 inserts `a`, erases it and inserts `b`. Rank 0 owns `a`, and rank 1 owns `b`.
-fn at_the_owners(rt: &impl Abort, alloc: Global, ranks: &mut Ranks<Set>) -> Result<(), Fail> {
-    for (erases, item) in [(false, b'a'), (true, b'a'), (false, b'b')] {
-        let mut change = Change {
-            alloc,
-            erases,
-            item,
-        };
-        ranks.call(0, &mut change)?;
+// The last of three ranks inserts `a`, erases it, and inserts `b`.
+fn change_thrice(alloc: Global, ranks: &mut Ranks<Set>) -> Result<(), RigFault> {
+    for _ in 0..3 {
+        ranks.add(Set::new(alloc)?)?;
     }
-    ranks.run_all()?;
-    let near = ranks.shard(0)?;
-    let far = ranks.shard(1)?;
-    same(
-        rt,
-        (near.count_here(), item(far, 0), far.count_here()),
-        (0, Some(b"b".as_slice()), 1),
-    );
-    Ok(())
+    for (erase, item) in [(false, b'a'), (true, b'a'), (false, b'b')] {
+        ranks.call(2, &mut Change { alloc, erase, item })?;
+    }
+    ranks.run_all()
 }
 
 #[test]
-fn an_item_that_was_erased_is_at_no_owner(rt: HostRuntime) -> Result<(), Fail> {
-    let mut ranks = two_ranks(rt.alloc())?;
-    at_the_owners(&rt, rt.alloc(), &mut ranks)
+fn an_erased_item_is_gone(rt: HostRuntime) -> Result<(), Fail> {
+    let alloc = rt.alloc();
+    let mut ranks = Ranks::new(alloc, 3, Limits::FULL)?;
+    change_thrice(alloc, &mut ranks)?;
+    let mut found = Vec::new(alloc);
+    for rank in 0..3 {
+        let set = ranks.shard(rank)?;
+        for k in 0..set.count_here() {
+            found.extend_from_slice(set.item_here(k))?;
+        }
+    }
+    same(&rt, found.as_slice(), b"b".as_slice());
+    Ok(())
+}
+
+// The items of a set, each of one byte, in order.
+#[derive(Drop)]
+struct PlainSet {
+    items: Vec<u8>,
+}
+
+impl PlainSet {
+    // The place of the item, or the number of items.
+    fn place(&self, item: u8) -> usize {
+        let place = self.items.iter().position(|other| *other == item);
+        place.unwrap_or(self.items.len())
+    }
+}
+
+// The body of a letter with an item of one byte.
+fn body_of(alloc: Global, item: u8) -> Result<Vec<u8>, AllocError> {
+    Vec::from_slice(alloc, &[1, 0, 0, 0, item])
+}
+
+impl PlainShard<Set> for PlainSet {
+    // One letter of three erases.
+    fn next_letter(
+        &mut self,
+        alloc: Global,
+        draws: &mut Draws,
+    ) -> Result<(u8, Vec<u8>), AllocError> {
+        let item = draws.below(8) as u8;
+        let body = body_of(alloc, item)?;
+        let place = self.place(item);
+        let known = place < self.items.len();
+        if draws.below(3) == 0 {
+            if known {
+                self.items.remove(place);
+            }
+            return Ok((ERASE, body));
+        }
+        if !known {
+            self.items.push(item)?;
+        }
+        Ok((INSERT, body))
+    }
+
+    fn is_kept_by(&self, shard: &Set) -> bool {
+        let mut kept = shard.count_here() == self.items.len() as u64;
+        for (k, item) in self.items.iter().enumerate() {
+            let here = (k as u64) < shard.count_here();
+            kept = kept && here && shard.item_here(k as u64) == [*item].as_slice();
+        }
+        kept
+    }
+}
+
+#[test]
+fn a_set_is_what_a_plain_list_is(rt: HostRuntime) -> Result<(), Fail> {
+    let alloc = rt.alloc();
+    let mut lone = LoneShard::new(alloc, Set::new(alloc)?)?;
+    let mut plain = PlainSet {
+        items: Vec::new(alloc),
+    };
+    let found = lone.first_difference(&mut plain, 300, 7)?;
+    same(&rt, found, None);
+    Ok(())
 }

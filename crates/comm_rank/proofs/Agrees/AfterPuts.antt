@@ -1,5 +1,5 @@
 -- A rank still agrees with its log after it put some of what it holds.
-use Rattle.std.proofs.Common.{◌≡◌, ◌≢◌, ℕ, ◌+◌, ◌-◌, ◌<◌, ◌≤◌, Option, Result, Ok, Err, List, [], ◌∷◌, ◌++◌, length, take, refl, sym, ap, ◌∙◌, subst, append-nil, append_assoc, arith}
+use Rattle.std.proofs.Common.{◌≡◌, ℕ, ◌+◌, ◌-◌, ◌≤◌, Option, Result, Ok, Err, List, [], ◌∷◌, ◌++◌, length, take, refl, sym, ap, ◌∙◌, subst, append-nil, append_assoc, arith}
 use Rattle.std.specs.Bool.{IsTrue}
 use Rattle.std.specs.List.{AllByRecursion, filter}
 use Rattle.std.proofs.lemmas.Grind.{flat_map-append}
@@ -14,7 +14,7 @@ use Rattle.world_core.specs.Limits.{most_letters}
 use Rattle.world_core.specs.Log.{IsPut, IsTake, batches_taken, letters_put, letters_put_by, letters_taken}
 use Rattle.world_core.specs.Modest.{IsModest}
 use Rattle.world_core.specs.Pairs.{arrived, for_rank, is_data, of_pair, own_count, sent, sent_number}
-use Rattle.world_core.specs.Post.{SamePost, PostState, local_at}
+use Rattle.world_core.specs.Post.{PostState, local_at}
 use Rattle.world_core.specs.Rules.{IsHonest}
 use Rattle.list_facts.proofs.Elements.{all_append}
 use Rattle.world_core.proofs.Log.Appended.{letters_taken-put, batches_taken-put}

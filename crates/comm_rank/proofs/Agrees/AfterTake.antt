@@ -35,6 +35,7 @@ use Rattle.list_facts.proofs.Sublist.{sublist_append}
 use Rattle.comm_rank.proofs.Agrees.Served.{served_more, suffix_longer}
 use Rattle.comm_rank.proofs.Agrees.Arrived.{Brings, arrived-took, brings, forward_more, is_read, its_controls, no_more_put, ran_all, ran_is}
 use Rattle.comm_rank.proofs.Fold.Appended.{fold-append, handed-append, start_fold}
+use Rattle.comm_rank.proofs.Told.Heard.{heard_none}
 use Rattle.comm_rank.proofs.Turns.Faults.{if_full}
 
 -- ---- the letters of the batch wait
@@ -42,7 +43,7 @@ use Rattle.comm_rank.proofs.Turns.Faults.{if_full}
 pub passed_waiting : {C : Type 0} (apply : Applies C) (was old new : Rank C) (waiting batch : List Letter) → was ≡ old → waiting ≡ batch →
     HasPassed apply (record was { waiting = waiting }) new waiting → HasPassed apply old new batch
 passed_waiting {C} apply was old new waiting batch e f h =
-    let there : HasPassed apply was new waiting = record { contents = h.contents; held = h.held; run_count = h.run_count; sent_count = h.sent_count } in
+    let there : HasPassed apply was new waiting = record { contents = h.contents; held = h.held; run_count = h.run_count; sent_count = h.sent_count; told = h.told } in
     subst (λ (me : Rank C). HasPassed apply me new batch) e (subst (HasPassed apply was new) f there)
 
 pub stuck_waiting : {C : Type 0} (apply : Applies C) (was old new : Rank C) (waiting batch : List Letter) → was ≡ old → waiting ≡ batch →
@@ -53,8 +54,8 @@ stuck_waiting {C} apply was old new waiting batch e f fault h =
       letters = h.letters;
       given = h.given;
       waits = h.waits;
-      stuck = record { begun = s.begun; held = s.held; run_count = s.run_count; sent_count = s.sent_count };
-      full_at_first = if_full fault (λ _ b. record { next = b.next; waits = b.waits; too_many = b.too_many }) h.full_at_first;
+      stuck = record { begun = s.begun; held = s.held; run_count = s.run_count; sent_count = s.sent_count; told = s.told };
+      full_at_first = if_full fault (λ _ b. record { next = b.next; waits = b.waits; too_many = b.too_many; told = b.told }) h.full_at_first;
       cause = record { count_full = h.cause.count_full; gave = h.cause.gave; never_stopped = h.cause.never_stopped };
     } in
     subst (λ (me : Rank C). StuckIn apply me new batch fault) e (subst (λ b. StuckIn apply was new b fault) f there)
@@ -126,6 +127,7 @@ module _ {C : Type 0} (apply : Applies C) (old new : Rank C) (log after : List E
     sent = sent_more (handed apply old run) (elsewhere old.here letters) passed.held;
     run_count = passed.run_count;
     sent_count = passed.sent_count;
+    told = passed.told;
   }
 
   pub took_from : old.waiting ≡ [] → new.waiting ≡ [] → HasPassed apply old new letters → TookFrom from apply old new log after 1
@@ -172,6 +174,7 @@ module _ {C : Type 0} (apply : Applies C) (old new : Rank C) (log after : List E
         sent = sent_more (handed apply old part ++ stuck.given) (elsewhere old.here stuck.letters) stuck.stuck.held;
         run_count = stuck.stuck.run_count;
         sent_count = stuck.stuck.sent_count;
+        told = stuck.stuck.told;
       };
       none_placed = refl;
       alone = (refl, tt);
@@ -287,6 +290,7 @@ cut_before {C} from apply me log none fault is = subst (WasCutFrom from apply me
       sent = λ to. sym (append-nil _);
       run_count = omega arith;
       sent_count = omega arith;
+      told = inl (heard_none me.heard);
     };
     none_placed = refl;
     alone = tt;

@@ -18,6 +18,7 @@ use Rattle.list_facts.proofs.Sums.{sum_upto-zero}
 use Rattle.comm_rank.specs.Agrees.{Agrees, Belongs}
 use Rattle.comm_rank.specs.Fold.{Applies}
 use Rattle.comm_rank.specs.Rank.{fresh_rank}
+use Rattle.ygm_taps.specs.Heard.{Heard}
 
 pub no_letters : (n : ℕ) → queued (replicate n empty_queue) ≡ []
 no_letters zero = refl
@@ -43,9 +44,9 @@ in_turn_fresh layout scheme here = record {
   in_turn = λ k from letters h. absurd cc;
 }
 
-pub agrees_fresh : {C : Type 0} (apply : Applies C) (start : C → C) (layout : Shape) (scheme : Scheme) (here most : ℕ) (contents : C) → start contents ≡ contents →
-    Agrees apply start (fresh_rank layout scheme here most contents) []
-agrees_fresh apply start layout scheme here most contents fresh =
+pub agrees_fresh : {C : Type 0} (apply : Applies C) (start : C → C) (layout : Shape) (scheme : Scheme) (here most : ℕ) (contents : C) (heard : Heard) → start contents ≡ contents →
+    Agrees apply start (fresh_rank layout scheme here most contents heard) []
+agrees_fresh apply start layout scheme here most contents heard fresh =
     let none : queued (replicate layout.ranks empty_queue) ≡ [] = no_letters layout.ranks in
     let me : Local = local_rank layout scheme here [] in
     let modest : IsModest me = record { few = omega (arith, run_number-nil here); lawful = tt; on_path = λ from. tt; control = in_turn_fresh layout scheme here } in
@@ -63,14 +64,14 @@ agrees_fresh apply start layout scheme here most contents fresh =
 
 -- ---- at new links
 
-module _ {C : Type 0} (apply : Applies C) (start : C → C) (layout : Shape) (scheme : Scheme) (most ring batches : ℕ) (contents : C) (fresh : start contents ≡ contents) (rank : ℕ) (within : rank < layout.ranks) where
+module _ {C : Type 0} (apply : Applies C) (start : C → C) (layout : Shape) (scheme : Scheme) (most ring batches : ℕ) (contents : C) (heard : Heard) (fresh : start contents ≡ contents) (rank : ℕ) (within : rank < layout.ranks) where
   pub none_new : log_of (fresh_links layout scheme ring batches).world rank ≡ []
   none_new = get_or-replicate layout.ranks rank [] [] within
 
-  pub belongs_new : Belongs apply start (fresh_rank layout scheme rank most contents) (state_of (fresh_links layout scheme ring batches))
+  pub belongs_new : Belongs apply start (fresh_rank layout scheme rank most contents heard) (state_of (fresh_links layout scheme ring batches))
   belongs_new = record {
     serves = lt-ltb _ _ within;
     layout = refl;
     scheme = refl;
-    agrees = subst (Agrees apply start (fresh_rank layout scheme rank most contents)) (sym none_new) (agrees_fresh apply start layout scheme rank most contents fresh);
+    agrees = subst (Agrees apply start (fresh_rank layout scheme rank most contents heard)) (sym none_new) (agrees_fresh apply start layout scheme rank most contents heard fresh);
   }

@@ -1,23 +1,20 @@
 -- A put of a batch that a rank holds.
-use Rattle.std.proofs.Common.{◌≡◌, ◌≢◌, ℕ, ◌+◌, ◌-◌, ◌<◌, ◌≤◌, Bool, true, false, not, ◌&&◌, nat_eq, None, Err, List, [], ◌∷◌, ◌++◌, length, drop, refl, sym, ap, ◌∙◌, subst, append-nil, append_assoc, length-append, length-drop, length-set, arith, inl, inr, if◌then◌else◌}
+use Rattle.std.proofs.Common.{◌≡◌, ◌≢◌, ℕ, ◌+◌, ◌<◌, ◌≤◌, Bool, true, false, not, ◌&&◌, nat_eq, None, Err, List, [], ◌∷◌, ◌++◌, length, drop, refl, sym, ap, ◌∙◌, subst, append-nil, append_assoc, length-append, length-drop, length-set, arith, inl, inr, if◌then◌else◌}
 use Rattle.std.specs.Bool.{IsTrue}
 use Rattle.std.specs.List.{AllByRecursion, flat_map}
 use Rattle.std.proofs.lemmas.Bool.{cases_eq}
 use Rattle.std.proofs.lemmas.List.{get_or-set_other, nil_from_length}
-use Rattle.list_facts.specs.Prefix.{IsPrefix}
 use Rattle.list_facts.proofs.Elements.{all_append, all_first, all_second, all_weaker, both_of}
-use Rattle.list_facts.proofs.Prefix.{prefix_length}
 use Rattle.msg_codec.specs.declared.letter.Letter.{Letter}
-use Rattle.ygm_route.specs.Hop.{hop}
 use Rattle.ygm_route.specs.Layout.{Shape}
 use Rattle.send_buffers.specs.Buffers.{AreRouted, Buffered, IsBatchFor, IsRouted, Queue, empty_queue, given_back, letters_in, queue_at, queued}
-use Rattle.send_buffers.specs.Calls.{HandsOut, InPlace, with_batch_back}
+use Rattle.send_buffers.specs.Calls.{HandsOut, InPlace}
 use Rattle.world_core.specs.declared.entry.Entry.{Entry}
 use Rattle.world_core.specs.declared.entry.Entry.TheVariants.{Put}
 use Rattle.world_core.specs.ControlRules.{is_free}
 use Rattle.world_core.specs.Local.{Local, having_put, is_rank, to_forward}
 use Rattle.world_core.specs.Log.{IsPut}
-use Rattle.world_core.specs.Pairs.{is_data, of_pair, of_sender, own_count, pair_put, pair_taken, sent, sent_number}
+use Rattle.world_core.specs.Pairs.{is_data, of_pair, own_count, pair_put, pair_taken, sent, sent_number}
 use Rattle.world_core.specs.Post.{CountsNeverFall, FullsRise, IfFull, IfNoMemory, PutKeeps, SameFulls, SamePost, PostState, local_at}
 use Rattle.world_core.specs.declared.post.PutBack.{PutBack}
 use Rattle.world_core.specs.declared.post.PutBack.TheVariants.{Full, NoMemory}
@@ -29,7 +26,7 @@ use Rattle.world_core.proofs.Deeds.Honest.{honest_more}
 use Rattle.world_core.proofs.Pairs.Appended.{pair_put-put, pair_taken-put}
 use Rattle.world_core.proofs.Pairs.Numbers.{own_count-put, sent_number-is}
 use Rattle.world_core.proofs.Posts.CountsNeverFall.{never_fall_refl, never_fall_trans}
-use Rattle.comm_rank.specs.Agrees.{Forwards, MaySend, PutsData}
+use Rattle.comm_rank.specs.Agrees.{Forwards, MaySend}
 use Rattle.comm_rank.specs.Held.{AreData, NoneClosed}
 use Rattle.comm_rank.specs.Moves.{MayPut, Moved, OthersUnchanged, PutsOne, SameOpen, put_count}
 use Rattle.comm_rank.specs.Store.{Loses}

@@ -44,13 +44,13 @@ same_ran {C} old new w = record {
 -- letters that ran, after others
 pub ran_then : {C : Type 0} (a b c : Rank C) → OnlyRan a b → OnlyRan b c → OnlyRan a c
 ran_then {C} a b c first second =
-    let P : Rank C → Type 0 = λ r. c ≡ record r { contents = c.contents; sent_count = c.sent_count; run_count = c.run_count; held = c.held; waiting = c.waiting } in
+    let P : Rank C → Type 0 = λ r. c ≡ record r { contents = c.contents; sent_count = c.sent_count; run_count = c.run_count; held = c.held; waiting = c.waiting; heard = c.heard } in
     subst P first second
 
 -- two pieces of work, one after the other
 pub worked_then : {C : Type 0} (a b c : Rank C) → Worked a b → Worked b c → Worked a c
 worked_then {C} a b c first second =
-    let P : Rank C → Type 0 = λ r. c ≡ record r { contents = c.contents; sent_count = c.sent_count; run_count = c.run_count; held = c.held; waiting = c.waiting; controls = c.controls } in
+    let P : Rank C → Type 0 = λ r. c ≡ record r { contents = c.contents; sent_count = c.sent_count; run_count = c.run_count; held = c.held; waiting = c.waiting; controls = c.controls; heard = c.heard } in
     subst P first second
 
 -- ---- a post

@@ -1,5 +1,5 @@
 -- The count of what a rank has sent is the sum over its destinations.
-use Rattle.std.proofs.Common.{◌≡◌, ℕ, zero, suc, ◌+◌, ◌<◌, Bool, true, false, ◌&&◌, ◌==◌, nat_eq, eq-eqb, ne_eqb, cond, List, [], ◌∷◌, length, get_or, refl, sym, ◌∙◌, inl, inr, arith, length-append}
+use Rattle.std.proofs.Common.{◌≡◌, ℕ, zero, suc, ◌+◌, ◌<◌, Bool, true, false, ◌&&◌, ◌==◌, nat_eq, eq-eqb, ne_eqb, cond, List, [], ◌∷◌, length, refl, sym, ◌∙◌, inl, inr, arith, length-append}
 use Rattle.std.specs.List.{AllByRecursion}
 use Rattle.std.proofs.lemmas.Bool.{cases_eq}
 use Rattle.list_facts.specs.Sums.{sum_upto}

@@ -132,4 +132,4 @@ module _ {C : Type 0} (apply : Applies C) (start : C → C) (old : Rank C) (ther
         let new : Rank C = record old { controls = controls } in
         let nothing : HasPassed apply old old [] = passed_none apply old in
         batch_taken [] (none_for_handlers batch control is some) new (record { layout = refl; scheme = refl; here = refl; most = refl }) (more ∙ ap (λ xs. old.controls ++ xs) (sym all)) started
-        belongs.agrees.nothing_waits (record { contents = nothing.contents; held = nothing.held; run_count = nothing.run_count; sent_count = nothing.sent_count })
+        belongs.agrees.nothing_waits (record { contents = nothing.contents; held = nothing.held; run_count = nothing.run_count; sent_count = nothing.sent_count; told = nothing.told })

@@ -20,6 +20,7 @@ use Rattle.comm_rank.specs.Running.{CutFrom, NotLookedAt, TookBelow, TookFrom, W
 use Rattle.comm_rank.specs.Turns.{Advanced, CutOff, FullAtFirst, LookedAt, WasCut, other_end}
 use Rattle.comm_rank.proofs.Running.Passed.{folded_on, handed_on}
 use Rattle.comm_rank.proofs.Running.Stuck.{begun_same, full_later}
+use Rattle.comm_rank.proofs.Told.Heard.{heard_none, heard_then, lacks_then}
 use Rattle.comm_rank.proofs.Turns.Faults.{cause_on, if_full}
 
 -- ---- in the order of ranks
@@ -65,6 +66,7 @@ module _ {C : Type 0} (apply : Applies C) (old mid new : Rank C) (before between
           ∙ ap (λ xs. sent_to old before to ++ of_pair old.here to xs) (append-nil (handed apply old (run ++ more)));
       run_count = omega (arith, first.run_count, second.run_count, length-append run more);
       sent_count = omega (arith, first.sent_count, second.sent_count, ap length handed_both, length-append (handed apply old run) (handed apply mid more));
+      told = heard_then old.heard mid.heard new.heard run more first.told second.told;
     }
 
   module _ (from took : ℕ) (first : TookBelow from apply old mid before between took) where
@@ -133,6 +135,7 @@ module _ {C : Type 0} (apply : Applies C) (old mid new : Rank C) (before between
           run_count = omega (arith, first.all.advanced.run_count, c.run_count, length-append run c.run);
           sent_count =
               omega (arith, first.all.advanced.sent_count, c.sent_count, ap length (handed_both run c.run first.all.advanced), length-append (handed apply old run) (handed apply mid c.run));
+          told = lacks_then old.heard mid.heard new.heard run c.run first.all.advanced.told c.told;
         }
 
     full_joined : FullAtFirst apply mid new between after → FullAtFirst apply old new before after
@@ -142,7 +145,7 @@ module _ {C : Type 0} (apply : Applies C) (old mid new : Rank C) (before between
         record {
           run = run ++ second.run;
           ran = second.ran ∙ ap (λ xs. xs ++ second.run) ahead.ran ∙ append_assoc (ran_at old before) run second.run;
-          full = full_later apply old mid new same.here same.layout run second.run same.most ahead.contents ahead.sent_count second.full;
+          full = full_later apply old mid new same.here same.layout run second.run same.most ahead.contents ahead.sent_count ahead.told second.full;
         }
 
     pub cut_later : (fault : CommFault) → WasCutFrom from apply mid new between after fault → WasCut apply old new before after fault
@@ -153,7 +156,7 @@ module _ {C : Type 0} (apply : Applies C) (old mid new : Rank C) (before between
     }
 
 pub advanced_none : {C : Type 0} (apply : Applies C) (me : Rank C) (log : List Entry) → Advanced apply me me log log []
-advanced_none apply me log = record { ran = sym (append-nil _); contents = refl; sent = λ to. sym (append-nil _); run_count = omega arith; sent_count = omega arith }
+advanced_none apply me log = record { ran = sym (append-nil _); contents = refl; sent = λ to. sym (append-nil _); run_count = omega arith; sent_count = omega arith; told = heard_none me.heard }
 
 pub took_nothing : {C : Type 0} (apply : Applies C) (me : Rank C) (log : List Entry) (bound : ℕ) → me.waiting ≡ [] → TookBelow bound apply me me log log 0
 took_nothing apply me log bound none = record {

@@ -1,5 +1,5 @@
 -- What is held loses the letters of a batch that is handed out.
-use Rattle.std.proofs.Common.{◌≡◌, ℕ, ◌&&◌, nat_eq, eqb-true, List, [], ◌∷◌, ◌∙◌, sym, arith, length}
+use Rattle.std.proofs.Common.{ℕ, ◌&&◌, nat_eq, eqb-true, List, arith}
 use Rattle.list_facts.proofs.Tests.{and_second}
 use Rattle.msg_codec.specs.declared.letter.Letter.{Letter}
 use Rattle.send_buffers.specs.Buffers.{AreRouted, Buffered, queued}

@@ -3,7 +3,6 @@ use Rattle.std.proofs.Common.{◌≡◌, ℕ, ◌+◌, ◌-◌, ◌^◌, min, fa
 use Rattle.std.specs.List.{AllByRecursion}
 use Rattle.std.specs.Result.{IfOk}
 use Rattle.std.proofs.lemmas.Bool.{cases_eq, false≢true}
-use Rattle.msg_codec.specs.declared.letter.Letter.{Letter}
 use Rattle.send_buffers.specs.Buffers.{Queue}
 use Rattle.world_core.specs.declared.entry.Entry.{Entry}
 use Rattle.world_core.specs.Log.{IsPut, batches_taken, letters_taken}
@@ -47,6 +46,7 @@ module _ {C : Type 0} (apply : Applies C) (old mid new : Rank C) (before between
         sent = λ to. out.sent to ∙ first.advanced.sent to ∙ ap (λ xs. sent_to old before to ++ of_pair old.here to xs) (sym (append-nil (handed apply old run)));
         run_count = still (λ me. me.run_count) ∙ first.advanced.run_count;
         sent_count = omega (arith, still (λ me. me.sent_count), first.advanced.sent_count);
+        told = inl (still (λ me. me.heard) ∙ first.advanced.told);
       }
 
   pub turned : (turn : Turn) → turn.took ≡ took → turn.put ≡ min (length placed) (2 ^ 64 - 1) → Turned apply old new before after turn
@@ -60,6 +60,7 @@ module _ {C : Type 0} (apply : Applies C) (old mid new : Rank C) (before between
       sent = λ to. out.sent to ∙ first.advanced.sent to;
       run_count = still (λ me. me.run_count) ∙ first.advanced.run_count;
       sent_count = still (λ me. me.sent_count) ∙ first.advanced.sent_count;
+      told = still (λ me. me.heard) ∙ first.advanced.told;
     };
     nothing_waits = still (λ me. me.waiting) ∙ first.nothing_waits;
     controls = still (λ me. me.controls) ∙ first.controls;
@@ -126,12 +127,13 @@ module _ {C : Type 0} (apply : Applies C) (old was mid : Rank C) (before looked 
         sent = c.sent;
         run_count = c.run_count;
         sent_count = c.sent_count;
+        told = c.told;
       }
 
   full_stopped : FullAtFirst apply old mid looked after → FullAtFirst apply old (halted was) before now
   full_stopped full =
       let f = at_logs (FullAtFirst apply old) full in
-      record { run = f.run; ran = f.ran; full = record { next = f.full.next; waits = f.full.waits; too_many = f.full.too_many } }
+      record { run = f.run; ran = f.ran; full = record { next = f.full.next; waits = f.full.waits; too_many = f.full.too_many; told = f.full.told } }
 
   pub was_cut_stopped : (fault : CommFault) → WasCut apply old mid looked after fault → WasCut apply old (halted was) before now fault
   was_cut_stopped fault w =

@@ -3,7 +3,7 @@ use Rattle.std.proofs.Common.{◌≡◌, ◌≢◌, ℕ, ◌<◌, false, Some, L
 use Rattle.std.proofs.lemmas.Bool.{cases_eq}
 use Rattle.std.proofs.lemmas.Option.{slice_get_within}
 use Rattle.list_facts.proofs.Places.{item_kept, item_placed}
-use Rattle.ygm_route.specs.declared.scheme.Scheme.TheVariants.{Direct}
+use Rattle.ygm_route.specs.declared.scheme.Scheme.{Scheme}
 use Rattle.ygm_route.specs.Layout.{Shape}
 use Rattle.world_core.specs.declared.entry.Entry.{Entry}
 use Rattle.world_core.specs.Plain.{Plain, fresh_links, state_of}
@@ -13,6 +13,7 @@ use Rattle.comm_rank.specs.Agrees.{Agrees, Belongs, PutsData}
 use Rattle.comm_rank.specs.Fold.{Applies}
 use Rattle.comm_rank.specs.Rank.{IsSameRank, Rank, fresh_rank}
 use Rattle.comm_rank.proofs.Agrees.Fresh.{belongs_new, none_new}
+use Rattle.ygm_taps.specs.Heard.{Heard}
 use Rattle.comm_rank.proofs.Rank.Same.{belongs_still}
 
 module _ {C : Type 0} (apply : Applies C) (start : C → C) where
@@ -53,15 +54,15 @@ module _ {C : Type 0} (apply : Applies C) (start : C → C) where
   ]
 
   -- new ones, at new links
-  pub all_new : (layout : Shape) (most ring batches : ℕ) (contents : C) (comms : List (Rank C)) → start contents ≡ contents → length comms ≡ layout.ranks →
-      ((rank : ℕ) (me : Rank C) → slice_get comms rank ≡ Some me → me ≡ fresh_rank layout Direct rank most contents) → AllStand comms (fresh_links layout Direct ring batches)
-  all_new layout most ring batches contents comms fresh all each rank me e =
-      let links = fresh_links layout Direct ring batches in
+  pub all_new : (layout : Shape) (scheme : Scheme) (most ring batches : ℕ) (contents : C) (heard : Heard) (comms : List (Rank C)) → start contents ≡ contents → length comms ≡ layout.ranks →
+      ((rank : ℕ) (me : Rank C) → slice_get comms rank ≡ Some me → me ≡ fresh_rank layout scheme rank most contents heard) → AllStand comms (fresh_links layout scheme ring batches)
+  all_new layout scheme most ring batches contents heard comms fresh all each rank me e =
+      let links = fresh_links layout scheme ring batches in
       let within : rank < layout.ranks = omega (arith, slice_get_within comms rank me e, all) in
       let is = each rank me e in (
         ap (λ (r : Rank C). r.here) is,
         λ going. subst (λ r. Stands r links) (sym is) (
-          belongs_new apply start layout most ring batches contents fresh rank within,
-          subst (λ xs. PutsData xs) (sym (none_new apply start layout most ring batches contents fresh rank within)) tt,
+          belongs_new apply start layout scheme most ring batches contents heard fresh rank within,
+          subst (λ xs. PutsData xs) (sym (none_new apply start layout scheme most ring batches contents heard fresh rank within)) tt,
         ),
       )

@@ -3,8 +3,8 @@ ghost use Rattle.std.specs.Prelude.{◌≡◌, ◌^◌, IfOk};
 ghost use Rattle.world_core.specs.Plain.{fresh_links};
 ghost use Rattle.ygm_route.specs.declared.scheme.Scheme.TheVariants.{Direct};
 
-use super::{ASK, Echo, NOTE, TWO_LETTERS, boxed, rank_of, same, send_by, turn_of};
-use crate::{Comm, CommFault, Handler, Turn};
+use super::{ASK, Echo, LONG, NOTE, TWO_LETTERS, boxed, flush_by, rank_of, same, send_by, turn_of};
+use crate::{Comm, CommFault, Finished, Handler, Turn};
 use msg_codec::{Batch, Letters};
 use std::alloc::Global;
 use std::collections::VecDeque;
@@ -16,7 +16,8 @@ use world_core::laws::{
     taking_the_next_batch_keeps_a_sound_world,
 };
 use world_core::{Entry, Limits, Post, PutBack};
-use ygm_route::Layout;
+use ygm_route::{Layout, Scheme};
+use ygm_taps::{QuietTap, Tap};
 
 // A batch in the queue, and its letters, for the log once it is taken.
 #[derive(Drop)]
@@ -27,7 +28,7 @@ struct Parcel {
 
 // The rank's log, which has room for what is in the queue, and the queue, which holds two batches at most.
 #[derive(Drop)]
-struct QueuePost {
+pub(super) struct QueuePost {
     alloc: Global,
     layout: Layout,
     log: Vec<Entry>,
@@ -155,13 +156,13 @@ impl Post for QueuePost {
 
 // One rank, and its post.
 #[derive(Drop)]
-struct Lone<H: Handler, P: Post + Drop> {
+pub(super) struct Lone<H: Handler, T: Tap, P: Post + Drop> {
     alloc: Global,
-    comm: Box<Comm<H>>,
+    pub(super) comm: Box<Comm<H, T>>,
     post: Box<P>,
 }
 
-impl<H: Handler, P: Post + Drop> Model for Lone<H, P> {
+impl<H: Handler, T: Tap, P: Post + Drop> Model for Lone<H, T, P> {
     ghost use Rattle.std.specs.Prelude.{◌≡◌, false};
     ghost use Rattle.comm_rank.specs.Agrees.{Belongs, PutsData};
     ghost use Rattle.comm_rank.specs.Rank.{Rank};
@@ -173,10 +174,14 @@ impl<H: Handler, P: Post + Drop> Model for Lone<H, P> {
     ghost invariant = { λ lone. lone.comm.value.stopped ≡ false → Belongs H.apply H.start lone.comm.value (P.state lone.post.value) × PutsData ((P.state lone.post.value).log lone.comm.value.here) };
 }
 
-// A rank that has a queue for its post.
-fn lone_of(alloc: Global, limits: Limits) -> Result<Lone<Echo, QueuePost>, Fail> {
+// A rank that has a queue for its post, and a tap.
+pub(super) fn lone_of<T: Tap>(
+    alloc: Global,
+    limits: Limits,
+    tap: T,
+) -> Result<Lone<Echo, T, QueuePost>, Fail> {
     let post = boxed(alloc, QueuePost::new(alloc)?)?;
-    let comm = rank_of(alloc, post.layout(), 0, limits)?;
+    let comm = rank_of(alloc, post.layout(), Scheme::Direct, 0, limits, tap)?;
     Ok(Lone {
         alloc,
         comm: boxed(alloc, comm)?,
@@ -184,33 +189,42 @@ fn lone_of(alloc: Global, limits: Limits) -> Result<Lone<Echo, QueuePost>, Fail>
     })
 }
 
-impl<H: Handler, P: Post + Drop> Lone<H, P> {
-    // It sends itself a letter.
-    fn send(&mut self, tag: u8, first: u8) -> Result<(), Fail> {
+impl<H: Handler, T: Tap, P: Post + Drop> Lone<H, T, P> {
+    // It sends itself a letter, in a batch of its own.
+    pub(super) fn send(&mut self, tag: u8, first: u8) -> Result<(), Fail> {
         let here = self.comm.here();
-        send_by(self.alloc, &mut *self.comm, here, tag, first)??;
+        send_by(self.alloc, &mut *self.comm, here, tag, &[first; LONG])??;
         Ok(())
     }
 
-    fn try_turn(&mut self) -> Result<Result<Turn, CommFault>, Fail> {
+    pub(super) fn try_turn(&mut self) -> Result<Result<Turn, CommFault>, Fail> {
         if self.comm.is_stopped() {
             return Err("a rank that isn't stopped takes a turn".into());
         }
         Ok(turn_of(&mut *self.comm, &mut *self.post))
     }
 
-    fn turn(&mut self) -> Result<Turn, Fail> {
+    fn flush(&mut self) -> Result<(), Fail> {
+        flush_by(&mut *self.comm)
+    }
+
+    // A turn that puts all that the rank held before.
+    pub(super) fn turn(&mut self) -> Result<Turn, Fail> {
+        self.flush()?;
         Ok(self.try_turn()??)
     }
 
-    fn finish(self) -> H {
+    pub(super) fn finish(self) -> Finished<H, T> {
         let Lone { comm, .. } = self;
-        Box::into_inner(comm).finish().handler
+        Box::into_inner(comm).finish()
     }
 }
 
 // Three letters, of which the queue holds two.
-fn through_a_queue(rt: &impl Abort, lone: &mut Lone<Echo, QueuePost>) -> Result<(), Fail> {
+fn through_a_queue(
+    rt: &impl Abort,
+    lone: &mut Lone<Echo, QuietTap, QueuePost>,
+) -> Result<(), Fail> {
     lone.send(NOTE, b'a')?;
     lone.send(NOTE, b'b')?;
     lone.send(NOTE, b'c')?;
@@ -239,14 +253,18 @@ fn through_a_queue(rt: &impl Abort, lone: &mut Lone<Echo, QueuePost>) -> Result<
 
 #[test]
 fn a_rank_alone_sends_itself_letters_through_a_queue(rt: HostRuntime) -> Result<(), Fail> {
-    let mut lone = lone_of(rt.alloc(), Limits::FULL)?;
+    let mut lone = lone_of(rt.alloc(), Limits::FULL, QuietTap)?;
     through_a_queue(&rt, &mut lone)?;
-    same(&rt, lone.finish().seen.as_slice(), b"abc".as_slice());
+    same(
+        &rt,
+        lone.finish().handler.seen.as_slice(),
+        b"abc".as_slice(),
+    );
     Ok(())
 }
 
 // The rank may send one letter more, and is asked for two.
-fn asked_too_much(rt: &impl Abort, lone: &mut Lone<Echo, QueuePost>) -> Result<(), Fail> {
+fn asked_too_much(rt: &impl Abort, lone: &mut Lone<Echo, QuietTap, QueuePost>) -> Result<(), Fail> {
     lone.send(ASK, b'q')?;
     lone.turn()?;
     let full = matches!(lone.try_turn()?, Err(CommFault::CountFull(_)));
@@ -260,5 +278,5 @@ fn asked_too_much(rt: &impl Abort, lone: &mut Lone<Echo, QueuePost>) -> Result<(
 
 #[test]
 fn a_rank_alone_raises_the_stop_of_its_queue(rt: HostRuntime) -> Result<(), Fail> {
-    asked_too_much(&rt, &mut lone_of(rt.alloc(), TWO_LETTERS)?)
+    asked_too_much(&rt, &mut lone_of(rt.alloc(), TWO_LETTERS, QuietTap)?)
 }

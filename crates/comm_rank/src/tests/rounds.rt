@@ -119,7 +119,7 @@ fn asked_too_much(rt: &impl Abort, ranks: &mut Ranks<Echo>) -> Result<(), Fail> 
             far.is_stopped(),
             ranks.link_len(1, 0)?,
         ),
-        (true, false, true, 1),
+        (true, false, true, 0),
     );
     same(
         rt,

@@ -1,5 +1,5 @@
 -- Ranks stay ready at their links: where one is added, makes a call or takes a turn.
-use Rattle.std.proofs.Common.{◌≡◌, ◌≢◌, ℕ, ◌<◌, ◌≤◌, false, IsTrue, Some, List, [], ◌∷◌, ◌++◌, length, get_or, replicate, set, sym, ap, ◌∙◌, subst, inl, inr, arith, length-append, length-set}
+use Rattle.std.proofs.Common.{◌≡◌, ◌≢◌, ℕ, ◌+◌, ◌<◌, ◌≤◌, false, IsTrue, None, Some, List, [], ◌∷◌, ◌++◌, length, get_or, replicate, set, slice_get, sym, ap, ◌∙◌, subst, lt-ltb, inl, inr, arith, length-append, length-set}
 use Rattle.std.proofs.lemmas.Bool.{cases_eq, cases_lt}
 use Rattle.std.proofs.lemmas.List.{get_or-replicate, get_or_past, length-replicate}
 use Rattle.std.proofs.lemmas.Option.{slice_get-get_or}
@@ -46,7 +46,7 @@ module _ {C : Type 0} (apply : Applies C) (start : C → C) where
       }
 
   -- a rank that was made, at links where it did nothing
-  pub new_ready : (now : Rank C) (layout : Shape) (scheme : Scheme) (here most : ℕ) (contents : C) (post : PostState) → now ≡ fresh_rank layout scheme here most contents → Agrees apply start now [] →
+  pub new_ready : (now : Rank C) (layout : Shape) (scheme : Scheme) (here most : ℕ) (contents : C) (post : PostState) → now ≡ fresh_rank layout scheme here most contents None → Agrees apply start now [] →
       IsTrue (post.serves here) → post.layout ≡ layout → post.scheme ≡ scheme → post.log here ≡ [] → (now.here ≡ here) × IsReady apply start now post
   new_ready now layout scheme here most contents post is agrees serves same_layout same_scheme none =
       let at : now.here ≡ here = ap (λ (me : Rank C). me.here) is in

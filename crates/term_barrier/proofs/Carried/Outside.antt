@@ -13,6 +13,7 @@ use Rattle.comm_rank.specs.Agrees.{Agrees, Belongs, MayTurn}
 use Rattle.comm_rank.specs.Fold.{Applies}
 use Rattle.comm_rank.specs.Rank.{HasSent, Rank, fresh_rank, held_letters, local_of}
 use Rattle.comm_rank.proofs.Agrees.MayTurn.{may_turn_data}
+use Rattle.ygm_taps.specs.Heard.{Heard}
 use Rattle.term_barrier.specs.Account.{handler_of, with_more}
 use Rattle.term_barrier.specs.Barriers.{BarrierAgrees, BarrierState, fresh_barrier}
 use Rattle.term_barrier.specs.Carried.{Carries, Phases, own_cuts}
@@ -30,11 +31,11 @@ none_held (suc n) here to = none_held n here to
 module _ {C : Type 0} (apply : Applies C) (start : C → C) where
   -- ---- a new rank
 
-  pub carries_new : (layout : Shape) (scheme : Scheme) (here most limit : ℕ) (contents : C) (rounds : ℕ → ℕ) (post : PostState) →
-      Belongs apply start (fresh_rank layout scheme here most contents) post → post.log here ≡ [] →
-      Carries apply start (λ phase to. []) rounds (fresh_barrier layout here limit) (fresh_rank layout scheme here most contents) post
-  carries_new layout scheme here most limit contents rounds post belongs none =
-      let me : Rank C = fresh_rank layout scheme here most contents in
+  pub carries_new : (layout : Shape) (scheme : Scheme) (here most limit : ℕ) (contents : C) (heard : Heard) (rounds : ℕ → ℕ) (post : PostState) →
+      Belongs apply start (fresh_rank layout scheme here most contents heard) post → post.log here ≡ [] →
+      Carries apply start (λ phase to. []) rounds (fresh_barrier layout here limit) (fresh_rank layout scheme here most contents heard) post
+  carries_new layout scheme here most limit contents heard rounds post belongs none =
+      let me : Rank C = fresh_rank layout scheme here most contents heard in
       let barrier : BarrierState = fresh_barrier layout here limit in
       record {
         stands = record {

@@ -1,6 +1,5 @@
 -- What a turn of a rank whose batches were closed before is to the rank before that.
-use Rattle.std.proofs.Common.{◌≡◌, ℕ, false, Result, Ok, Err, List, ◌++◌, inl, inr, sym, ap, ◌∙◌, subst}
-use Rattle.msg_codec.specs.declared.letter.Letter.{Letter}
+use Rattle.std.proofs.Common.{◌≡◌, ℕ, false, List, ◌++◌, inl, inr, sym, ap, ◌∙◌, subst}
 use Rattle.send_buffers.specs.Buffers.{Queue, queued}
 use Rattle.world_core.specs.declared.entry.Entry.{Entry}
 use Rattle.world_core.specs.Log.{letters_taken}
@@ -11,12 +10,12 @@ use Rattle.comm_rank.specs.declared.turn.Turn.{Turn}
 use Rattle.comm_rank.specs.Agrees.{MaySend}
 use Rattle.comm_rank.specs.Fold.{Applies}
 use Rattle.comm_rank.specs.Rank.{Rank, handed, held_letters, local_of, sent_to}
-use Rattle.comm_rank.specs.Turns.{Advanced, CutOff, FullAtFirst, HasFailed, KeepsPost, Turned, WasCut}
+use Rattle.comm_rank.specs.Turns.{KeepsPost, Turned, WasCut}
 use Rattle.comm_rank.proofs.Agrees.AfterSend.{agrees_rebatched}
 use Rattle.comm_rank.proofs.Turns.Faults.{if_full}
 use Rattle.term_barrier.specs.declared.polled.Polled.{Polled}
 use Rattle.term_barrier.specs.Barriers.{BarrierState}
-use Rattle.term_barrier.specs.Polls.{HasPolled, PollEnded, PollFailed, PutFailed, Stands}
+use Rattle.term_barrier.specs.Polls.{HasPolled, PollEnded, PollFailed, Stands}
 
 module _ {C : Type 0} (apply : Applies C) (start : C → C) (old : Rank C) (held : List Queue) (same : queued held ≡ held_letters old) where
   abbrev flushed : Rank C
@@ -36,6 +35,7 @@ module _ {C : Type 0} (apply : Applies C) (start : C → C) (old : Rank C) (held
       sent = λ to. t.advanced.sent to ∙ ap (λ letters. letters ++ of_pair old.here to (handed apply old (for_rank old.here (letters_taken t.taken)))) (sent_same before to);
       run_count = t.advanced.run_count;
       sent_count = t.advanced.sent_count;
+      told = t.advanced.told;
     };
     nothing_waits = t.nothing_waits;
     controls = t.controls;
@@ -67,8 +67,9 @@ module _ {C : Type 0} (apply : Applies C) (start : C → C) (old : Rank C) (held
       sent = λ to. w.cut_off.sent to ∙ ap (λ letters. letters ++ of_pair old.here to (handed apply old w.cut_off.run ++ w.cut_off.given)) (sent_same before to);
       run_count = w.cut_off.run_count;
       sent_count = w.cut_off.sent_count;
+      told = w.cut_off.told;
     };
-    full_at_first = if_full fault (λ _ f. record { run = f.run; ran = f.ran; full = record { next = f.full.next; waits = f.full.waits; too_many = f.full.too_many } }) w.full_at_first;
+    full_at_first = if_full fault (λ _ f. record { run = f.run; ran = f.ran; full = record { next = f.full.next; waits = f.full.waits; too_many = f.full.too_many; told = f.full.told } }) w.full_at_first;
     cause = record { count_full = w.cause.count_full; gave = w.cause.gave; never_stopped = w.cause.never_stopped };
   }
 

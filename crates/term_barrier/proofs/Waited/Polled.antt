@@ -36,6 +36,7 @@ advanced_controls apply old rank before log after controls run log_is each first
       sent = λ to. ap (λ ls. ls ++ of_pair here to (held_letters rank)) (put_is to) ∙ first.sent to;
       run_count = first.run_count;
       sent_count = first.sent_count;
+      told = first.told;
     }
 
 module _ {C : Type 0} (apply : Applies C) (old new : Rank C) (before after : List Entry) (turn : Turn)

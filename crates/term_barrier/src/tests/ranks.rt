@@ -1,5 +1,5 @@
 //! All ranks of a world on one thread, with their barriers.
-ghost use Rattle.std.specs.Prelude.{◌≡◌, ◌≤◌, ◌<◌, IfOk, false, []};
+ghost use Rattle.std.specs.Prelude.{◌≡◌, ◌≤◌, ◌<◌, IfOk, None, false, []};
 ghost use Rattle.world_core.specs.Plain.{state_of};
 ghost use Rattle.world_core.specs.Post.{PostState, SamePost};
 ghost use Rattle.comm_rank.specs.Rank.{fresh_rank};
@@ -18,6 +18,7 @@ use std::sync::Wait;
 use std::test::*;
 use world_core::{Entry, Limits, PlainLinks};
 use ygm_route::{Layout, Scheme};
+use ygm_taps::QuietTap;
 
 // The most bytes of a batch of more than one letter.
 const BUFFER: u32 = 64;
@@ -41,10 +42,10 @@ fn boxed<T: Drop>(alloc: Global, value: T) -> Result<Box<T>, Fail>
     )
 }
 
-// A rank, and its barrier.
+// A rank with a quiet tap, and its barrier.
 #[derive(Drop)]
 pub(super) struct Member<H: Handler> {
-    comm: Comm<H>,
+    comm: Comm<H, QuietTap>,
     barrier: Barrier,
 }
 
@@ -57,7 +58,7 @@ fn member_of(
     limits: Limits,
 ) -> Result<Member<Relay>, Fail>
     requires below { here < layout.ranks }
-    ensures rank { IfOk result (λ member. member.comm ≡ fresh_rank layout scheme here limits.letters []) }
+    ensures rank { IfOk result (λ member. member.comm ≡ fresh_rank layout scheme here limits.letters [] None) }
     ensures barrier { IfOk result (λ member. member.barrier ≡ fresh_barrier layout here limits.rounds) }
 {
     let made = Comm::new(
@@ -68,6 +69,7 @@ fn member_of(
         BUFFER,
         limits,
         Relay::new(alloc),
+        QuietTap,
     );
     Ok(Member {
         comm: made.ok().ok_or("there is memory for a rank")?,

@@ -1,12 +1,13 @@
 -- What holds of a command line of which no refusal holds.
 use Rattle.std.proofs.Common.{◌≡◌, ℕ, zero, suc, ◌+◌, ◌%◌, ◌<◌, ◌≤◌, ◌||◌, Bool, true, false, cond, not, List, [], ◌∷◌, Option, None, Some, Contains, codes, drop, find, get_or, length, option_and_then, refl, ap, sym, ◌∙◌, subst, arith}
-use Rattle.std.specs.Prelude.{bytes_eq, nat_eq, unwrap_or}
+use Rattle.std.specs.Prelude.{nat_eq, unwrap_or}
 use Rattle.std.proofs.lemmas.Bool.{eqb-false, eqb-true, ltb-false}
-use Rattle.ygm_route.specs.declared.scheme.Scheme.TheVariants.{Direct}
 use Rattle.ygm_route.specs.Layout.{IsLayout, max_ranks}
+use Rattle.send_buffers.specs.Limits.{max_buffer, min_buffer}
 use Rattle.ygm_run.specs.declared.words.UsageKind.{UsageKind}
 use Rattle.ygm_run.specs.declared.words.UsageKind.TheVariants.{NoJob, UnknownJob, UnknownOption, OptionTwice, MissingValue, BadValue, NoFile, TooManyFiles, Layout, TooManyRanks}
-use Rattle.ygm_run.specs.Words.{Command, cores_of, holds, ranks_of, refusals, scheme_in, scheme_of, value_of}
+use Rattle.ygm_run.specs.Words.{Command, batch_form, buffer_of, cores_of, holds, number_by, number_of, ranks_of, refusals, value_of}
+use Rattle.ygm_run.proofs.CommandLine.Numbers.{default_within}
 
 -- an item that fails isn't found
 pub find_later : {X : Type 0} (test : X → Bool) (xs : List X) (place : ℕ) (other : X) → place < length xs → test (get_or xs place other) ≡ false
@@ -75,13 +76,9 @@ accepted command none =
       };
     }
 
--- the one scheme that is taken
-pub only_direct : (command : Command) → scheme_in command ≡ Direct
-only_direct command = of (value_of (codes "--scheme") command.options) where
-  by_name : (known : Bool) → unwrap_or (cond known (Some Direct) None) Direct ≡ Direct
-  by_name true = refl
-  by_name false = refl
-
-  of : (value : Option (List ℕ)) → unwrap_or (option_and_then scheme_of value) Direct ≡ Direct
-  of None = refl
-  of (Some text) = by_name (bytes_eq text (codes "none"))
+-- the most bytes of a batch are within their bounds
+pub buffer_within : (command : Command) → (min_buffer ≤ buffer_of command) × (buffer_of command ≤ max_buffer)
+buffer_within command = of (value_of (codes "--buffer") command.options) where
+  of : (value : Option (List ℕ)) → let buffer = unwrap_or (option_and_then (number_by (Some batch_form)) value) 16384 in (min_buffer ≤ buffer) × (buffer ≤ max_buffer)
+  of None = (omega arith, omega arith)
+  of (Some text) = default_within min_buffer max_buffer 16384 (omega arith) (omega arith) (number_of text)

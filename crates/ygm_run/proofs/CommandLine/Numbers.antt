@@ -1,8 +1,8 @@
 -- Numbers that texts are.
-use Rattle.std.proofs.Common.{◌≡◌, ℕ, zero, suc, ◌+◌, ◌-◌, ◌*◌, ◌<◌, ◌||◌, Bool, true, false, cond, List, [], ◌∷◌, Option, None, Some, drop, get_or, length, option_and_then, refl, ap, subst, arith}
-use Rattle.std.specs.Prelude.{nat_lt}
+use Rattle.std.proofs.Common.{◌≡◌, ℕ, zero, suc, ◌+◌, ◌-◌, ◌*◌, ◌<◌, ◌≤◌, ◌||◌, Bool, true, false, cond, List, [], ◌∷◌, Option, None, Some, drop, get_or, length, option_and_then, refl, ap, subst, arith}
+use Rattle.std.specs.Prelude.{nat_lt, unwrap_or}
 use Rattle.std.specs.Char.{is_ascii_digit}
-use Rattle.std.proofs.lemmas.Bool.{lt-ltb}
+use Rattle.std.proofs.lemmas.Bool.{lt-ltb, ltb-false}
 use Rattle.ygm_run.specs.Words.{if_within, number_after}
 
 or_true : (a : Bool) (x : Option ℕ) → cond (a || true) None x ≡ None
@@ -27,3 +27,14 @@ digit_more (byte ∷ bytes) (suc place) number within digit =
     let e : suc (place + 1) ≡ suc place + 1 = omega arith in
     subst (λ k. number_after number (drop place bytes) ≡ number_after (number * 10 + (get_or bytes place 0 - 48)) (drop k (byte ∷ bytes))) e
     (digit_more bytes place number (omega (arith, within)) digit)
+
+-- a number within bounds, or else a default within them
+pub default_within : (least most other : ℕ) → least ≤ other → other ≤ most → (found : Option ℕ)
+    → let number = unwrap_or (option_and_then (if_within least most) found) other in (least ≤ number) × (number ≤ most)
+default_within least most other low high None = (low, high)
+default_within least most other low high (Some number) = of (nat_lt number least) (nat_lt most number) refl refl where
+  of : (below above : Bool) → nat_lt number least ≡ below → nat_lt most number ≡ above
+      → let one = unwrap_or (cond (below || above) None (Some number)) other in (least ≤ one) × (one ≤ most)
+  of true above below_is above_is = (low, high)
+  of false true below_is above_is = (low, high)
+  of false false below_is above_is = (ltb-false number least below_is, ltb-false most number above_is)

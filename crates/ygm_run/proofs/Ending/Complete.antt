@@ -6,14 +6,14 @@ use Rattle.ygm_io.specs.Rising.{Rose}
 use Rattle.world_core.specs.Limits.{most_letters}
 use Rattle.ygm_run.specs.declared.status.InputFault.{InputFault}
 use Rattle.ygm_run.specs.declared.status.InputFault.TheVariants.{Read, Bad as BadInput}
-use Rattle.ygm_run.specs.declared.status.LineWhy.{LineWhy}
+use Rattle.line_input.specs.declared.why.LineWhy.{LineWhy}
 use Rattle.ygm_run.specs.declared.status.Status.{Status}
 use Rattle.ygm_run.specs.declared.status.Status.TheVariants.{Done, NoMemory}
 use Rattle.ygm_run.specs.declared.words.UsageKind.{UsageKind}
 use Rattle.ygm_run.specs.BadLines.{first_wrong, tally_wrong}
 use Rattle.ygm_run.specs.Inputs.{IsFullAtRank, IsLowestFault, IsRead}
 use Rattle.ygm_run.specs.Job.{AreExposed, letters_bound, lines_of_each}
-use Rattle.ygm_run.specs.Lines.{raw_lines}
+use Rattle.line_input.specs.Lines.{raw_lines}
 use Rattle.ygm_run.specs.TallyText.{tally_text}
 use Rattle.ygm_run.specs.Verdict.{Text, first_bad, tally_verdict}
 use Rattle.ygm_run.specs.Words.{Asked}

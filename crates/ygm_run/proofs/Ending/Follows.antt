@@ -7,14 +7,14 @@ use Rattle.std.proofs.lemmas.Option.{slice_get-map, slice_get_cases, slice_get_w
 use Rattle.ygm_io.specs.Content.{ExposedBytes}
 use Rattle.ygm_run.specs.declared.status.InputFault.{InputFault}
 use Rattle.ygm_run.specs.declared.status.InputFault.TheVariants.{Read, Bad as BadInput}
-use Rattle.ygm_run.specs.declared.status.LineWhy.{LineWhy}
+use Rattle.line_input.specs.declared.why.LineWhy.{LineWhy}
 use Rattle.ygm_run.specs.declared.status.Status.{Status}
 use Rattle.ygm_run.specs.declared.status.Status.TheVariants.{BadLine}
 use Rattle.ygm_run.specs.BadLines.{first_wrong, tally_wrong}
 use Rattle.ygm_run.specs.Ending.{FollowsVerdict, IsWritten, may_write}
 use Rattle.ygm_run.specs.Inputs.{AllRead, IsLowestFault, IsRead, bad_line}
 use Rattle.ygm_run.specs.Job.{AreExposed, lines_of_each}
-use Rattle.ygm_run.specs.Lines.{raw_lines}
+use Rattle.line_input.specs.Lines.{raw_lines}
 use Rattle.ygm_run.specs.TallyText.{tally_text}
 use Rattle.ygm_run.specs.Verdict.{Verdict, bad_or_text, first_bad, tally_verdict}
 use Rattle.ygm_run.proofs.Ending.Stages.{FilesEnd, lowest_if_bad, read_if_written, unlike}

@@ -6,7 +6,7 @@ use Rattle.std.proofs.lemmas.Option.{slice_get-map, slice_get_cases, slice_get_w
 use Rattle.list_facts.proofs.Places.{same_item}
 use Rattle.list_facts.proofs.Steps.{taken_more}
 use Rattle.ygm_io.specs.Content.{ExposedBytes, NothingLeft}
-use Rattle.ygm_run.specs.declared.status.LineWhy.{LineWhy}
+use Rattle.line_input.specs.declared.why.LineWhy.{LineWhy}
 use Rattle.ygm_run.specs.Inputs.{AllRead, AreRests, IsRest}
 use Rattle.ygm_run.proofs.Inputs.IsRest.{rest_none}
 

@@ -10,13 +10,13 @@ use Rattle.world_core.specs.Limits.{most_letters}
 use Rattle.ygm_run.specs.BadLines.{first_wrong, tally_wrong}
 use Rattle.ygm_run.specs.Inputs.{AllRead, IsRead}
 use Rattle.ygm_run.specs.Job.{AreExposed, lines_of_each}
-use Rattle.ygm_run.specs.Limits.{max_line}
-use Rattle.ygm_run.specs.Lines.{AreShort, first_too_long, lines_of, raw_lines, text_of}
+use Rattle.line_input.specs.Limits.{max_line}
+use Rattle.line_input.specs.Lines.{AreShort, first_too_long, lines_of, raw_lines, text_of}
 use Rattle.ygm_run.proofs.Ending.Follows.{file_at, none_if_all_read, source_at}
 use Rattle.ygm_run.proofs.Inputs.GoodLines.{good_of_short}
 use Rattle.ygm_run.proofs.Inputs.TallyWrong.{first_wrong_of, too_long_at}
-use Rattle.ygm_run.proofs.Lines.FirstTooLong.{short_of_none}
-use Rattle.ygm_run.proofs.Lines.TextOf.{length-text_of}
+use Rattle.line_input.proofs.Lines.FirstTooLong.{short_of_none}
+use Rattle.line_input.proofs.Lines.TextOf.{length-text_of}
 use Rattle.ygm_run.proofs.Verdict.FirstBad.{none_at}
 
 -- where no line is bad, none is too long

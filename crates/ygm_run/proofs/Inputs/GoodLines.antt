@@ -4,10 +4,10 @@ use Rattle.std.specs.Option.{option_map}
 use Rattle.std.specs.List.{AllByRecursion}
 use Rattle.std.proofs.lemmas.Bool.{cases_lt, le-ltb, lt-ltb}
 use Rattle.ygm_run.specs.BadLines.{good_lines, tally_wrong}
-use Rattle.ygm_run.specs.Limits.{max_line}
-use Rattle.ygm_run.specs.Lines.{first_too_long, AreShort, IsFirstTooLong}
+use Rattle.line_input.specs.Limits.{max_line}
+use Rattle.line_input.specs.Lines.{first_too_long, AreShort, IsFirstTooLong}
 use Rattle.ygm_run.proofs.Inputs.TallyWrong.{not_refused, refused}
-use Rattle.ygm_run.proofs.Lines.FirstTooLong.{short_of}
+use Rattle.line_input.proofs.Lines.FirstTooLong.{short_of}
 
 -- short lines come before any that is too long
 pub good_before : (raws later : List (List ℕ)) → AllByRecursion (λ raw. length raw ≤ max_line) raws → length raws ≤ length (good_lines tally_wrong (raws ++ later))

@@ -8,17 +8,18 @@ use Rattle.ygm_io.specs.Content.{ExposedBytes, TakenFrom}
 use Rattle.ygm_run.specs.declared.status.InputFault.{InputFault}
 use Rattle.ygm_run.specs.declared.status.InputFault.TheVariants.{Read, Bad}
 use Rattle.ygm_run.specs.BadLines.{first_wrong, tally_wrong}
-use Rattle.ygm_run.specs.ReadLines.{EndedWith, LinesTaken, StopsAtPiece}
+use Rattle.line_input.specs.Taken.{LinesTaken}
+use Rattle.ygm_run.specs.ReadLines.{EndedWith, StopsAtPiece}
 use Rattle.ygm_run.specs.Inputs.{IsRead}
 use Rattle.world_core.specs.Limits.{most_letters}
-use Rattle.ygm_run.specs.Limits.{max_line}
-use Rattle.ygm_run.specs.Lines.{ended_lines, raw_lines, first_too_long}
-use Rattle.ygm_run.specs.Reading.{Reading}
-use Rattle.ygm_run.specs.Turns.{to_come}
-use Rattle.ygm_run.proofs.ReadLines.LinesTaken.{all_given, front_read, too_long_given}
+use Rattle.line_input.specs.Limits.{max_line}
+use Rattle.line_input.specs.Lines.{ended_lines, raw_lines, first_too_long}
+use Rattle.line_input.specs.Reading.{Reading}
+use Rattle.line_input.specs.Turns.{to_come}
+use Rattle.line_input.proofs.Taken.LinesTaken.{all_given, prefix_read, too_long_given}
 use Rattle.ygm_run.proofs.Inputs.GoodLines.{few_good, good_below}
 use Rattle.ygm_run.proofs.Inputs.TallyWrong.{first_wrong_of, none_wrong, too_long_at}
-use Rattle.ygm_run.proofs.Lines.FirstTooLong.{none_too_long_of}
+use Rattle.line_input.proofs.Lines.FirstTooLong.{none_too_long_of}
 
 -- How a file was read, once its reading has ended.
 pub was_read : {S : Type 0} (left : S → ExposedBytes) (faults : S
@@ -45,7 +46,7 @@ was_read left faults raws reader before source (Some Read) short taken given bou
 } where
   read_before : (front : List ℕ) × TakenFrom front before (left source) × (first_wrong tally_wrong (raw_lines front) ≡ None) × (ended_lines front ≤ most_letters)
   read_before =
-      let f = front_read raws reader.held [] reader.held before (left source) (sym (append-nil reader.held)) ended.1 ended.2 short taken in
+      let f = prefix_read raws reader.held [] reader.held before (left source) (sym (append-nil reader.held)) ended.1 ended.2 short taken in
       (f.0, subst (λ w. TakenFrom w before (left source)) (append-nil f.0) f.1, none_wrong (raw_lines f.0) f.2, omega (arith, f.3, given, bound))
 was_read left faults raws reader before source (Some (Bad line why)) short taken given bound ended = record {
   read = ((λ e. absurd cc), (λ lt. absurd (omega (arith, lt, ended.3))));
@@ -65,5 +66,5 @@ stopped_at_piece raws reader before left faults None short taken ended line why 
 stopped_at_piece raws reader before left faults (Some Read) short taken ended line why e = absurd cc
 stopped_at_piece raws reader before left faults (Some (Bad found reason)) short taken ended line why e =
     let last = ended.5 in
-    let f = front_read raws ended.4 last.piece reader.held before left last.behind last.partial last.short short taken in
+    let f = prefix_read raws ended.4 last.piece reader.held before left last.appended last.partial last.short short taken in
     (f.0, last.piece, last.one, f.1, none_wrong (raw_lines f.0) f.2)

@@ -2,7 +2,7 @@
 use Rattle.std.proofs.Common.{[], ◌++◌}
 use Rattle.ygm_io.specs.Content.{ExposedBytes}
 use Rattle.ygm_run.specs.Inputs.{IsRest}
-use Rattle.ygm_run.proofs.Turns.ToCome.{taken_more, taken_none}
+use Rattle.line_input.proofs.Turns.ToCome.{taken_more, taken_none}
 
 pub rest_none : (left : ExposedBytes) → IsRest left left
 rest_none left = ([], taken_none left)

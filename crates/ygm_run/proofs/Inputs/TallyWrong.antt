@@ -2,12 +2,12 @@
 use Rattle.std.proofs.Common.{◌≡◌, ℕ, ◌+◌, ◌<◌, ◌≤◌, true, false, cond, List, [], ◌∷◌, Some, None, Option, is_some, length, refl, ap, sym, ◌∙◌, inl, inr}
 use Rattle.std.specs.Option.{option_map, option_or}
 use Rattle.std.proofs.lemmas.Bool.{cases_lt, le-ltb, lt-ltb}
-use Rattle.ygm_run.specs.declared.status.LineWhy.{LineWhy}
-use Rattle.ygm_run.specs.declared.status.LineWhy.TheVariants.{TooLong}
+use Rattle.line_input.specs.declared.why.LineWhy.{LineWhy}
+use Rattle.line_input.specs.declared.why.LineWhy.TheVariants.{TooLong}
 use Rattle.ygm_run.specs.BadLines.{first_wrong, tally_wrong}
-use Rattle.ygm_run.specs.Limits.{max_line}
-use Rattle.ygm_run.specs.Lines.{first_too_long}
-use Rattle.ygm_run.proofs.Lines.FirstTooLong.{at_long, behind_short}
+use Rattle.line_input.specs.Limits.{max_line}
+use Rattle.line_input.specs.Lines.{first_too_long}
+use Rattle.line_input.proofs.Lines.FirstTooLong.{at_long, after_short}
 
 wrong_of_long : (raw : List ℕ) → max_line < length raw → tally_wrong raw ≡ Some TooLong
 wrong_of_long raw long = ap (λ b. cond b (Some TooLong) None) (lt-ltb max_line (length raw) long)
@@ -49,7 +49,7 @@ first_wrong_of (raw ∷ raws) = elim (cases_lt max_line (length raw)) [
   | inr short ↦
       ap (λ (why : Option LineWhy). option_or (option_map first_line why) (option_map next_line (first_wrong tally_wrong raws))) (fine_of_short raw short)
       ∙ ap (option_map next_line) (first_wrong_of raws) ∙ one_more (first_too_long raws)
-      ∙ sym (ap (option_map too_long_at) (behind_short raw raws short))
+      ∙ sym (ap (option_map too_long_at) (after_short raw raws short))
 ]
 
 -- where no line is too long, none is bad

@@ -8,7 +8,7 @@ use Rattle.world_core.specs.Pairs.{of_pair}
 use Rattle.term_barrier.specs.Account.{with_more}
 use Rattle.term_barrier.proofs.Account.Sent.{more_elsewhere}
 use Rattle.counting_set.specs.Counting.{add_letter}
-use Rattle.counting_set.specs.Owner.{owner_of_key}
+use Rattle.part_hash.specs.Owner.{owner_of_key}
 use Rattle.ygm_run.specs.TallyRun.{own_letters, tally_letters}
 
 own_letters-append : (ranks here to : ℕ) (xs ys : List (List ℕ)) → own_letters ranks here (xs ++ ys) to ≡ own_letters ranks here xs to ++ own_letters ranks here ys to

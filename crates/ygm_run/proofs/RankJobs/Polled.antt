@@ -17,7 +17,7 @@ use Rattle.term_barrier.specs.Polls.{PollEnded}
 use Rattle.term_barrier.proofs.Carried.Polled.{carries_left, carries_waited}
 use Rattle.ygm_run.specs.declared.job.Step.{Step}
 use Rattle.ygm_run.specs.declared.job.Step.TheVariants.{Going, Finished}
-use Rattle.ygm_run.specs.Lines.{text_of}
+use Rattle.line_input.specs.Lines.{text_of}
 use Rattle.ygm_run.specs.RankJobs.{HasGoneOn, HasPolledOnce, InJob, JobState, JobTurned, KeepsJob, faults_in, left_in}
 use Rattle.ygm_run.specs.ReadLines.{IsFullFile}
 use Rattle.ygm_run.specs.TallyRun.{tally_letters}

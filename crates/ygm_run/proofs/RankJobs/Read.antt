@@ -15,27 +15,27 @@ use Rattle.comm_rank.specs.Agrees.{Agrees}
 use Rattle.comm_rank.specs.Fault.{IfCountFull}
 use Rattle.comm_rank.specs.Rank.{HasSent, Rank}
 use Rattle.counting_set.specs.Counting.{Counts, add_letter, counting_apply}
-use Rattle.counting_set.specs.Owner.{owner_of_key}
+use Rattle.part_hash.specs.Owner.{owner_of_key}
 use Rattle.term_barrier.specs.Account.{with_more}
 use Rattle.term_barrier.specs.Barriers.{BarrierState}
 use Rattle.term_barrier.specs.Carried.{Carries}
 use Rattle.term_barrier.proofs.Carried.Outside.{carries_entered, carries_sent}
 use Rattle.term_barrier.proofs.Carried.Same.{carries_same}
-use Rattle.ygm_run.specs.Limits.{max_line}
-use Rattle.ygm_run.specs.Lines.{StartsTooLong, raw_lines, text_of}
+use Rattle.line_input.specs.Limits.{max_line}
+use Rattle.line_input.specs.Lines.{StartsTooLong, raw_lines, text_of}
 use Rattle.ygm_run.specs.RankJobs.{FullAtLine, HasReadOn, HasSentLines, InJob, JobState, KeepsJob}
-use Rattle.ygm_run.specs.Reading.{Reading}
+use Rattle.line_input.specs.Reading.{Reading}
 use Rattle.ygm_run.specs.ReadLines.{HasReadLines, IsFullFile}
 use Rattle.ygm_run.specs.TallyRun.{tally_letters}
-use Rattle.ygm_run.specs.Turns.{GaveLine, GaveNoLine, MetEnd, MetTooLong, RawLineTaken, ReadFailed, TookTurn, to_come}
-use Rattle.ygm_run.specs.declared.line_reader.Got.TheVariants.{End, Line as GotLine, More}
-use Rattle.ygm_run.specs.declared.line_reader.LineFault.TheVariants.{LineTooLong, ReadFault}
+use Rattle.line_input.specs.Turns.{GaveLine, LostNothing, MetEnd, MetTooLong, RawLineTaken, ReadFailed, ReadMore, TookTurn, to_come}
+use Rattle.line_input.specs.declared.line_reader.Got.TheVariants.{End, Line as GotLine, More}
+use Rattle.line_input.specs.declared.line_reader.LineFault.TheVariants.{LineTooLong, ReadFault}
 use Rattle.ygm_run.specs.declared.status.InputFault.TheVariants.{Bad, Read}
-use Rattle.ygm_run.specs.declared.status.LineWhy.TheVariants.{TooLong}
+use Rattle.line_input.specs.declared.why.LineWhy.TheVariants.{TooLong}
 use Rattle.ygm_run.proofs.Inputs.GoodLines.{few_good}
 use Rattle.ygm_run.proofs.RankJobs.OneMore.{one_line_more}
 use Rattle.ygm_run.proofs.ReadLines.FullFile.{many_good}
-use Rattle.ygm_run.proofs.ReadLines.LinesTaken.{line_cut, lines_more}
+use Rattle.line_input.proofs.Taken.LinesTaken.{line_cut, lines_more}
 
 -- ---- what the reader did
 
@@ -67,62 +67,61 @@ nothing_left (Some rest) none = none
 
 -- ---- turns that took no line
 
-module _ {S : Type 0} (left : S → ExposedBytes) (faults : S → ℕ) (old : JobState) (reader : Reading) (one : Rank Counts) (before now : S)
-    (gave : GaveNoLine left old.reader reader before now) where
+module _ {S : Type 0} (left : S → ExposedBytes) (faults : S → ℕ) (old : JobState) (reader : Reading) (one : Rank Counts) (before now : S) where
   -- the same, up to how the reading goes on or has ended
-  same_lines : (content : ExposedBytes) (earlier : List (List ℕ)) → length earlier ≤ most_letters →
+  same_lines : LostNothing left old.reader reader before now → (content : ExposedBytes) (earlier : List (List ℕ)) → length earlier ≤ most_letters →
       HasReadLines content old.reader (left before) earlier → HasReadLines content reader (left now) (earlier ++ [])
-  same_lines content earlier few was = read_nothing old.reader reader (left before) (left now) gave.to_come_stands gave.number_stands content earlier was
+  same_lines lost content earlier few was = read_nothing old.reader reader (left before) (left now) lost.to_come_unchanged lost.count_unchanged content earlier was
 
-  pub reads_on : TookTurn left faults (Ok More) old.reader reader before now →
+  pub reads_on : ReadMore left old.reader reader before now → TookTurn left faults (Ok More) old.reader reader before now →
       HasReadOn old (record { reader = reader; fault = old.fault }) one one (left before) (left now) (faults before) (faults now)
-  reads_on took = record {
+  reads_on more took = record {
     raws = [];
-    read = same_lines;
+    read = same_lines more.nothing_lost;
     sent = refl;
-    going_on = λ going. (refl, took.faults_stand);
+    going_on = λ going. (refl, took.faults_unchanged);
     ended = λ done. absurd (false≢true (sym took.done ∙ done));
   }
 
-  pub met_end : MetEnd left old.reader reader before → TookTurn left faults (Ok End) old.reader reader before now →
+  pub met_end : MetEnd left old.reader reader before now → TookTurn left faults (Ok End) old.reader reader before now →
       HasReadOn old (record { reader = reader; fault = old.fault }) one one (left before) (left now) (faults before) (faults now)
   met_end met took = record {
     raws = [];
-    read = same_lines;
+    read = same_lines met.nothing_lost;
     sent = refl;
     going_on = λ going. absurd (false≢true (sym going ∙ took.done));
     ended = λ done none no_fault few. rw no_fault (
-      met.end_all_given.1,
+      met.nothing_held.1,
       nothing_left (left now)
-          (subst (λ held. NothingLeft (to_come held (left now))) met.end_all_given.1 (subst NothingLeft (sym gave.to_come_stands) met.end_nothing_left)),
-      took.faults_stand ∙ none,
+          (subst (λ held. NothingLeft (to_come held (left now))) met.nothing_held.1 (subst NothingLeft (sym met.nothing_lost.to_come_unchanged) met.nothing_to_come)),
+      took.faults_unchanged ∙ none,
     );
   }
 
-  pub met_fault : ReadFailed left faults reader.held before now → TookTurn left faults (Err ReadFault) old.reader reader before now →
+  pub met_fault : ReadFailed left faults old.reader reader before now → TookTurn left faults (Err ReadFault) old.reader reader before now →
       HasReadOn old (record { reader = reader; fault = Some Read }) one one (left before) (left now) (faults before) (faults now)
-  met_fault failed took = record {
+  met_fault met took = record {
     raws = [];
-    read = same_lines;
+    read = same_lines met.nothing_lost;
     sent = refl;
     going_on = λ going. absurd (false≢true (sym going ∙ took.done));
-    ended = λ done none no_fault few. (omega (arith, failed.cause, none), failed.read_fault_is_partial.0, failed.read_fault_is_partial.1);
+    ended = λ done none no_fault few. (omega (arith, met.failed.cause, none), met.partial, met.short);
   }
 
-  pub met_too_long : (line : ℕ) → MetTooLong left line old.reader reader before → TookTurn left faults (Err (LineTooLong line)) old.reader reader before now →
+  pub met_too_long : (line : ℕ) → MetTooLong left line old.reader reader before now → TookTurn left faults (Err (LineTooLong line)) old.reader reader before now →
       HasReadOn old (record { reader = reader; fault = Some (Bad line TooLong) }) one one (left before) (left now) (faults before) (faults now)
   met_too_long line met took = record {
     raws = [];
-    read = same_lines;
+    read = same_lines met.nothing_lost;
     sent = refl;
     going_on = λ going. absurd (false≢true (sym going ∙ took.done));
     ended = λ done none no_fault few. (
-      subst (λ bytes. IfSome bytes StartsTooLong) (sym gave.to_come_stands) met.too_long_to_come,
+      subst (λ bytes. IfSome bytes StartsTooLong) (sym met.nothing_lost.to_come_unchanged) met.to_come_too_long,
       refl,
-      omega (arith, met.too_long_number, gave.number_stands, few),
-      took.faults_stand ∙ none,
+      omega (arith, met.number_is, met.nothing_lost.count_unchanged, few),
+      took.faults_unchanged ∙ none,
       old.reader.held,
-      met.too_long_by_a_piece,
+      met.by_a_piece,
     );
   }
 
@@ -144,12 +143,12 @@ took_line left faults old reader one me before now text item gave took is never 
     let line = gave.raw_line in
     record {
       raws = line.raw ∷ [];
-      read = read_line text old.reader reader (left before) (left now) line gave.line_counted;
+      read = read_line text old.reader reader (left before) (left now) line gave.counted;
       sent = (
         may_send one.sent_count one.most never,
         subst (λ (sends : List ℕ). HasSent one me (add_letter (owner_of_key sends one.layout.ranks) one.here sends)) (is ∙ line.text_is) sent,
       );
-      going_on = λ going. (refl, took.faults_stand);
+      going_on = λ going. (refl, took.faults_unchanged);
       ended = λ done. absurd (false≢true (sym took.done ∙ done));
     }
 

@@ -13,7 +13,7 @@ use Rattle.counting_set.proofs.Counts.After.{handed-none}
 use Rattle.term_barrier.specs.Barriers.{BarrierState}
 use Rattle.term_barrier.specs.Carried.{Carries}
 use Rattle.term_barrier.proofs.Carried.Turned.{carries_turned}
-use Rattle.ygm_run.specs.Lines.{text_of}
+use Rattle.line_input.specs.Lines.{text_of}
 use Rattle.ygm_run.specs.RankJobs.{JobState, KeepsJob}
 use Rattle.ygm_run.specs.TallyRun.{tally_letters}
 

@@ -3,7 +3,7 @@ use Rattle.std.proofs.Common.{◌≡◌, ℕ, zero, suc, ◌<◌, length, List, 
 use Rattle.std.proofs.lemmas.List.{get_or-replicate}
 use Rattle.std.proofs.lemmas.Option.{slice_get_within}
 use Rattle.ygm_io.specs.Content.{ExposedBytes}
-use Rattle.ygm_route.specs.declared.scheme.Scheme.TheVariants.{Direct}
+use Rattle.ygm_route.specs.declared.scheme.Scheme.{Scheme}
 use Rattle.ygm_route.specs.Layout.{Shape}
 use Rattle.world_core.specs.Limits.{most_letters, most_rounds}
 use Rattle.world_core.specs.Plain.{Plain, fresh_links, state_of}
@@ -20,8 +20,8 @@ use Rattle.ygm_run.specs.declared.ranks.RankRun.{RankRun}
 use Rattle.ygm_run.specs.RankJobs.{InJob, JobState, KeepsJob, faults_in, fresh_job, left_in}
 use Rattle.ygm_run.specs.RankRuns.{AreFresh, AreRuns, IsByEnd, IsFreshRun, IsRun}
 use Rattle.ygm_run.specs.TallyRun.{tally_letters}
-use Rattle.ygm_run.proofs.ReadLines.LinesTaken.{lines_none}
-use Rattle.ygm_run.proofs.Turns.ToCome.{taken_none}
+use Rattle.line_input.proofs.Taken.LinesTaken.{lines_none}
+use Rattle.line_input.proofs.Turns.ToCome.{taken_none}
 
 -- without lines there are no own letters
 none_own : (ranks here phase to : ℕ) → tally_letters ranks here [] phase to ≡ []
@@ -32,20 +32,20 @@ no_fault : {S : Type 0} (faults : S → ℕ) (source : Option S) → ((one : S) 
 no_fault faults None fresh = refl
 no_fault faults (Some one) fresh = fresh one refl
 
-module _ (layout : Shape) (ring batches rank : ℕ) (within : rank < layout.ranks) where
+module _ (layout : Shape) (scheme : Scheme) (ring batches rank : ℕ) (within : rank < layout.ranks) where
   abbrev me : Rank Counts
-  me = fresh_rank layout Direct rank most_letters []
+  me = fresh_rank layout scheme rank most_letters [] None
 
   abbrev barrier : BarrierState
   barrier = fresh_barrier layout rank most_rounds
 
   abbrev post : PostState
-  post = state_of (fresh_links layout Direct ring batches)
+  post = state_of (fresh_links layout scheme ring batches)
 
   carries_none : Carries counting_apply (λ _. []) (λ phase to. []) (λ k. 0) barrier me post
   carries_none =
-      carries_new counting_apply (λ _. []) layout Direct rank most_letters most_rounds [] (λ k. 0) post
-      (belongs_new counting_apply (λ _. []) layout most_letters ring batches [] refl rank within)
+      carries_new counting_apply (λ _. []) layout scheme rank most_letters most_rounds [] None (λ k. 0) post
+      (belongs_new counting_apply (λ _. []) layout scheme most_letters ring batches [] None refl rank within)
       (get_or-replicate layout.ranks rank [] [] within)
 
   keeps_new : (left : ExposedBytes) → KeepsJob left fresh_job me barrier post left
@@ -74,7 +74,7 @@ module _ (layout : Shape) (ring batches rank : ℕ) (within : rank < layout.rank
 
   -- of a fresh run
   run_new : {S : Type 0} (left : S → ExposedBytes) (faults : S → ℕ) (run : RankRun) (source : Option S) → faults_in faults source ≡ 0 →
-      IsFreshRun layout rank run → IsRun left faults layout rank (left_in left source) run post source
+      IsFreshRun layout scheme rank run → IsRun left faults layout rank (left_in left source) run post source
   run_new left faults run source fresh is =
       let content : ExposedBytes = left_in left source in
       let by_barrier = subst (λ (at : BarrierState). InJob left faults content fresh_job me at post source) (sym is.barrier) (in_job_new left faults source fresh) in
@@ -94,12 +94,12 @@ fresh_are_runs left faults layout start runs links fresh none = subst (λ (those
   all = fresh.all;
   same_world = refl;
   each = λ rank run at.
-      run_new layout fresh.ring fresh.batches rank (let within = slice_get_within runs rank run at in omega (arith, within, fresh.all)) left faults run (slice_get start rank)
+      run_new layout fresh.scheme fresh.ring fresh.batches rank (let within = slice_get_within runs rank run at in omega (arith, within, fresh.all)) left faults run (slice_get start rank)
       (no_fault faults (slice_get start rank) (none rank)) (fresh.each rank run at);
 })
 
 -- one job more, that of the next rank
-pub fresh_more : (layout : Shape) (runs : List RankRun) (run : RankRun) →
-    ((rank : ℕ) (one : RankRun) → slice_get runs rank ≡ Some one → IsFreshRun layout rank one) → IsFreshRun layout (length runs) run →
-    (rank : ℕ) (one : RankRun) → slice_get (runs ++ run ∷ []) rank ≡ Some one → IsFreshRun layout rank one
-fresh_more layout runs run each last = each_place_more (IsFreshRun layout) runs run each last
+pub fresh_more : (layout : Shape) (scheme : Scheme) (runs : List RankRun) (run : RankRun) →
+    ((rank : ℕ) (one : RankRun) → slice_get runs rank ≡ Some one → IsFreshRun layout scheme rank one) → IsFreshRun layout scheme (length runs) run →
+    (rank : ℕ) (one : RankRun) → slice_get (runs ++ run ∷ []) rank ≡ Some one → IsFreshRun layout scheme rank one
+fresh_more layout scheme runs run each last = each_place_more (IsFreshRun layout scheme) runs run each last

@@ -7,7 +7,6 @@ use Rattle.std.proofs.lemmas.Option.{slice_get-get_or, slice_get-map, slice_get_
 use Rattle.list_facts.proofs.Fields.{field_at}
 use Rattle.msg_codec.specs.declared.letter.Letter.{Letter}
 use Rattle.ygm_io.specs.Content.{ExposedBytes}
-use Rattle.ygm_route.specs.declared.scheme.Scheme.TheVariants.{Direct}
 use Rattle.ygm_route.specs.Layout.{Shape, max_ranks}
 use Rattle.world_core.specs.declared.entry.Entry.{Entry}
 use Rattle.world_core.specs.Local.{local_rank}
@@ -32,15 +31,16 @@ use Rattle.ygm_run.specs.BadLines.{tally_wrong}
 use Rattle.ygm_run.specs.Inputs.{AllRead, IsRead}
 use Rattle.ygm_run.specs.Job.{AreExposed, lines_of_each}
 use Rattle.ygm_run.specs.JobEnds.{HasRun}
-use Rattle.ygm_run.specs.Lines.{lines_of, text_of}
+use Rattle.line_input.specs.Lines.{lines_of, text_of}
 use Rattle.ygm_run.specs.RankJobs.{HasFinished, faults_in, fresh_job, left_in}
 use Rattle.ygm_run.specs.RankRuns.{AllWell, AreRuns, IsByEnd, NoFaults, NoneStopped}
-use Rattle.ygm_run.specs.ReadLines.{EndedWith, LinesTaken}
+use Rattle.line_input.specs.Taken.{LinesTaken}
+use Rattle.ygm_run.specs.ReadLines.{EndedWith}
 use Rattle.ygm_run.specs.TallyRun.{AreFolds, IsTallyRun, tally_letters, tally_letters_of}
-use Rattle.ygm_run.specs.Turns.{to_come}
+use Rattle.line_input.specs.Turns.{to_come}
 use Rattle.ygm_run.proofs.Ending.Follows.{item_at}
 use Rattle.ygm_run.proofs.Inputs.IsRead.{was_read}
-use Rattle.ygm_run.proofs.ReadLines.LinesTaken.{all_taken}
+use Rattle.ygm_run.proofs.ReadLines.AllTaken.{all_taken}
 use Rattle.ygm_run.proofs.TallyRun.Run.{counting_is_silent}
 
 -- what holds of some value for each rank, holds of those of one function
@@ -121,7 +121,7 @@ module _ {S : Type 0} (left : S → ExposedBytes) (faults : S → ℕ) (layout :
 
       -- a rank's job, and any one past the last rank
       abbrev run_at : ℕ → RankRun
-      run_at rank = get_or runs rank (record { job = fresh_job; comm = fresh_rank layout Direct 0 0 []; barrier = fresh_barrier layout 0 0; ended = None })
+      run_at rank = get_or runs rank (record { job = fresh_job; comm = fresh_rank layout links.world.scheme 0 0 [] None; barrier = fresh_barrier layout 0 0; ended = None })
 
       all_ranks : length runs ≡ ranks
       all_ranks = are.all ∙ sym (ap (λ (l : Shape). l.ranks) are.same_world)

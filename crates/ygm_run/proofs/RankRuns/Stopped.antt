@@ -16,13 +16,14 @@ use Rattle.ygm_run.specs.BadLines.{tally_wrong}
 use Rattle.ygm_run.specs.Inputs.{IsFullAtRank, IsLowestFault, IsRead}
 use Rattle.ygm_run.specs.Job.{lines_of_each}
 use Rattle.ygm_run.specs.JobEnds.{JobStops, fault_of}
-use Rattle.ygm_run.specs.Lines.{StartsTooLong, lines_of}
+use Rattle.line_input.specs.Lines.{StartsTooLong, lines_of}
 use Rattle.ygm_run.specs.RankJobs.{faults_in, left_in}
 use Rattle.ygm_run.specs.RankRuns.{AreRuns, EndsBy, IsByEnd, IsLowestInput, NoneStopped}
-use Rattle.ygm_run.specs.Reading.{Reading}
-use Rattle.ygm_run.specs.ReadLines.{EndedWith, IsFullFile, LinesTaken}
+use Rattle.line_input.specs.Reading.{Reading}
+use Rattle.line_input.specs.Taken.{LinesTaken}
+use Rattle.ygm_run.specs.ReadLines.{EndedWith, IsFullFile}
 use Rattle.ygm_run.specs.TallyText.{all_lines}
-use Rattle.ygm_run.specs.Turns.{to_come}
+use Rattle.line_input.specs.Turns.{to_come}
 use Rattle.ygm_run.proofs.Ending.Follows.{item_at}
 use Rattle.ygm_run.proofs.RankRuns.Ended.{bytes_at, content_is, finished, lines_at, read_at}
 

@@ -3,11 +3,11 @@ use Rattle.std.proofs.Common.{ℕ, ◌<◌, ◌≤◌, List, [], ◌∷◌, ◌+
 use Rattle.std.specs.List.{AllByRecursion}
 use Rattle.list_facts.proofs.Elements.{all_append}
 use Rattle.ygm_io.specs.Content.{ExposedBytes}
-use Rattle.ygm_run.specs.ReadLines.{HasLine, LinesTaken}
+use Rattle.line_input.specs.Taken.{HasLine, LinesTaken}
 use Rattle.ygm_run.specs.BadLines.{good_lines, tally_wrong}
-use Rattle.ygm_run.specs.Limits.{max_line}
-use Rattle.ygm_run.specs.Lines.{raw_lines}
-use Rattle.ygm_run.proofs.ReadLines.LinesTaken.{line_cut, lines_more, whole_lines}
+use Rattle.line_input.specs.Limits.{max_line}
+use Rattle.line_input.specs.Lines.{raw_lines}
+use Rattle.line_input.proofs.Taken.LinesTaken.{line_cut, lines_more, whole_lines}
 use Rattle.ygm_run.proofs.Inputs.GoodLines.{good_before}
 
 -- lines were taken, and one more is to come: so many and one come before any that is too long

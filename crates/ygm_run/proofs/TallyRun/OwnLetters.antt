@@ -6,9 +6,9 @@ use Rattle.std.proofs.lemmas.List.Elements.{All-from_recursion, recursion_from_A
 use Rattle.std.proofs.lemmas.List.Sums.{sum_by-cons}
 use Rattle.list_facts.proofs.Equal.{bytes_eq-other, cases_same}
 use Rattle.counting_set.specs.Counting.{AddsSome, add_letter, adds, adds_of, share}
-use Rattle.counting_set.specs.Owner.{owner_of_key}
+use Rattle.part_hash.specs.Owner.{owner_of_key}
 use Rattle.counting_set.proofs.Counts.Inserts.{add_letter_adds}
-use Rattle.ygm_run.specs.Limits.{max_line}
+use Rattle.line_input.specs.Limits.{max_line}
 use Rattle.ygm_run.specs.TallyRun.{CountLines, own_letters}
 use Rattle.ygm_run.specs.TallyText.{times}
 use Rattle.ygm_run.proofs.TallyText.Times.{times-cons}

@@ -10,7 +10,7 @@ use Rattle.term_barrier.proofs.CompleteRun.Silent.{arrived_weight}
 use Rattle.counting_set.specs.Counting.{Counts, counting_apply}
 use Rattle.ygm_run.specs.Job.{AreExposed, lines_of_each}
 use Rattle.ygm_run.specs.JobEnds.{HasRun}
-use Rattle.ygm_run.specs.Lines.{lines_of}
+use Rattle.line_input.specs.Lines.{lines_of}
 use Rattle.ygm_run.specs.TallyRun.{IsTally, IsTallyRun, own_letters, tally_letters_of}
 use Rattle.ygm_run.specs.TallyText.{IsTableOf, tally_text}
 use Rattle.ygm_run.proofs.Inputs.AllRead.{all_few, all_short}

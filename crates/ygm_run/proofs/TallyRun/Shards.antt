@@ -8,7 +8,7 @@ use Rattle.list_facts.specs.Sums.{sum_upto}
 use Rattle.list_facts.proofs.Sums.{sum_upto-same, sum_upto-zero}
 use Rattle.comm_rank.specs.Fold.{fold_from}
 use Rattle.counting_set.specs.Counting.{AddsNoZero, Counts, HasCounts, adds_of, counting_apply}
-use Rattle.counting_set.specs.Owner.{fnv, owner_of_key}
+use Rattle.part_hash.specs.Owner.{fnv, owner_of_key}
 use Rattle.counting_set.proofs.Counts.HasCounts.{letters_add_up}
 use Rattle.ygm_run.specs.TallyRun.{IsTally}
 use Rattle.ygm_run.specs.TallyText.{AreCounts, IsTableOf, all_lines, tally_text, times}

@@ -1,9 +1,9 @@
 -- The lowest rank whose file has a bad line.
 use Rattle.std.proofs.Common.{◌≡◌, ◌↔◌, ℕ, zero, suc, ◌+◌, ◌<◌, List, [], ◌∷◌, Some, None, Option, slice_get, refl, ap, sym, ◌∙◌, subst, arith}
 use Rattle.std.specs.Option.{option_map, option_or}
-use Rattle.ygm_run.specs.declared.status.LineWhy.{LineWhy}
+use Rattle.line_input.specs.declared.why.LineWhy.{LineWhy}
 use Rattle.ygm_run.specs.BadLines.{first_wrong}
-use Rattle.ygm_run.specs.Lines.{raw_lines}
+use Rattle.line_input.specs.Lines.{raw_lines}
 use Rattle.ygm_run.specs.Verdict.{AreGood, Bad, IsLowestBad, Text, bad_or_text, first_bad}
 
 -- a bad line, with the first rank

@@ -1,14 +1,12 @@
-use Rattle.std.proofs.Common.{◌≡◌, ℕ, None, List, [], ◌∷◌, length, refl, sym, ap, ◌∙◌, subst, arith}
-use Rattle.msg_codec.specs.declared.letter.Letter.{Letter}
-use Rattle.send_buffers.specs.Buffers.{Buffered, IsBatchFor, Queue}
-use Rattle.send_buffers.specs.Calls.{HandsOut, InPlace, with_batch_back}
+use Rattle.std.proofs.Common.{◌≡◌, ℕ, None, [], ◌∷◌, length, refl, sym, ap, ◌∙◌, subst, arith}
+use Rattle.send_buffers.specs.Buffers.{IsBatchFor, Queue}
+use Rattle.send_buffers.specs.Calls.{with_batch_back}
 use Rattle.send_buffers.proofs.Queued.Steps.{stepped_back}
 use Rattle.world_core.specs.declared.entry.Entry.TheVariants.{Put}
 use Rattle.world_core.specs.Post.{PostState, PutDone, PutFoundFull, PutHadNoMemory, PutKeeps, batch_back, local_at}
 use Rattle.world_core.specs.Rules.{first_broken}
 use Rattle.world_core.specs.Rules.Deed.{Puts}
 use Rattle.world_core.proofs.Posts.CountsNeverFall.{after_put_done, after_put_full, after_put_no_memory}
-use Rattle.comm_rank.specs.Moves.{Moved}
 use Rattle.comm_rank.proofs.Moves.OnePut.{all_unchanged, batch_in_place, found_full, had_no_memory, moved_none, moved_one, others_unchanged, puts_keep, some_held, unbroken_put}
 use Rattle.comm_rank.proofs.Store.Loses.{loses_batch}
 use Rattle.comm_rank.proofs.Store.SameStore.{in_place_then}

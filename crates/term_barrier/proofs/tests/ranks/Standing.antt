@@ -1,5 +1,5 @@
 -- Ranks that stand at a post with their barriers: new ones, one that took a turn, and all others.
-use Rattle.std.proofs.Common.{◌≡◌, ◌≢◌, ℕ, ◌<◌, false, Some, List, [], length, get_or, set, slice_get, sym, ap, ◌∙◌, subst, inl, inr, arith}
+use Rattle.std.proofs.Common.{◌≡◌, ◌≢◌, ℕ, ◌<◌, false, None, Some, List, [], length, get_or, set, slice_get, sym, ap, ◌∙◌, subst, inl, inr, arith}
 use Rattle.std.proofs.lemmas.Bool.{cases_eq}
 use Rattle.std.proofs.lemmas.Option.{slice_get-get_or, slice_get_within}
 use Rattle.list_facts.proofs.Places.{item_kept, item_set, same_item}
@@ -24,14 +24,14 @@ use Rattle.term_barrier.proofs.Polls.Stands.{stands_unchanged}
 module _ {C : Type 0} (apply : Applies C) (start : C → C) where
   -- a new rank, at new links
   pub stands_new : (layout : Shape) (scheme : Scheme) (here most rounds ring batches : ℕ) (contents : C) → start contents ≡ contents → here < layout.ranks →
-      Stands apply start (fresh_barrier layout here rounds) (fresh_rank layout scheme here most contents)
+      Stands apply start (fresh_barrier layout here rounds) (fresh_rank layout scheme here most contents None)
       (state_of (fresh_links layout scheme ring batches))
   stands_new layout scheme here most rounds ring batches contents fresh within =
-      let me : Rank C = fresh_rank layout scheme here most contents in
+      let me : Rank C = fresh_rank layout scheme here most contents None in
       let barrier : BarrierState = fresh_barrier layout here rounds in
-      let none : log_of (fresh_links layout scheme ring batches).world here ≡ [] = none_new apply start layout scheme most ring batches contents fresh here within in
+      let none : log_of (fresh_links layout scheme ring batches).world here ≡ [] = none_new apply start layout scheme most ring batches contents None fresh here within in
       record {
-        belongs = belongs_new apply start layout scheme most ring batches contents fresh here within;
+        belongs = belongs_new apply start layout scheme most ring batches contents None fresh here within;
         may_turn = subst (λ log. MayTurn me log) (sym none) (may_turn_data me [] tt);
         agrees = subst (λ log. BarrierAgrees barrier [] (local_of me log)) (sym none) (agrees_fresh layout scheme here rounds);
       }
@@ -90,7 +90,7 @@ module _ {C : Type 0} (apply : Applies C) (start : C → C) where
   pub all_new : (layout : Shape) (scheme : Scheme) (most rounds ring batches : ℕ) (contents : C) (members : List (Member C)) →
       start contents ≡ contents → length members ≡ layout.ranks →
       ((rank : ℕ) (member : Member C) → slice_get members rank ≡ Some member →
-      (member.comm ≡ fresh_rank layout scheme rank most contents) × (member.barrier ≡ fresh_barrier layout rank rounds)) →
+      (member.comm ≡ fresh_rank layout scheme rank most contents None) × (member.barrier ≡ fresh_barrier layout rank rounds)) →
       AllStand members (state_of (fresh_links layout scheme ring batches))
   all_new layout scheme most rounds ring batches contents members fresh all each rank member e =
       let links = state_of (fresh_links layout scheme ring batches) in
@@ -100,5 +100,5 @@ module _ {C : Type 0} (apply : Applies C) (start : C → C) where
         ap (λ (me : Rank C). me.here) is.0,
         λ going.
             subst (λ me. Stands apply start member.barrier me links) (sym is.0)
-            (subst (λ barrier. Stands apply start barrier (fresh_rank layout scheme rank most contents) links) (sym is.1) stands),
+            (subst (λ barrier. Stands apply start barrier (fresh_rank layout scheme rank most contents None) links) (sym is.1) stands),
       )

@@ -1,7 +1,8 @@
 use Rattle.std.proofs.Common.{rules, ◌≡◌, ◌++◌, ◌∙◌, IfOk, codes, decimal, string_bytes, sym}
 use Rattle.std.proofs.lemmas.Result.{IfOk-weaker}
 use Rattle.ygm_run.specs.declared.status.Status.TheVariants.{BadLine, CountFull}
-use Rattle.ygm_run.specs.Notes.{note_text, why_text}
+use Rattle.line_input.specs.Why.{why_text}
+use Rattle.ygm_run.specs.Notes.{note_text}
 use Rattle.ygm_run.specs.Words.{texts_of}
 use Rattle.ygm_run.proofs.Notes.NoteLine.{bad_line_note, count_full_note}
 use Rattle.ygm_run.proofs.note.text_of.Goals as goal

@@ -12,7 +12,7 @@ use Rattle.comm_rank.proofs.comm.Comm.flush.Goals as goal
 pub returns-clause-closed : goal.returns-clause-closed
 returns-clause-closed g c =
     let i = c.self.inside in
-    let me : Rank g.row.H.Denot = record { layout = i.layout; scheme = i.scheme; here = i.here; most = i.limits.letters; contents = i.handler; sent_count = i.sent.count; run_count = i.ran; held = i.held.queues; waiting = i.waiting; controls = map letter_of_control i.controls.items; stopped = i.stopped } in
+    let me : Rank g.row.H.Denot = record { layout = i.layout; scheme = i.scheme; here = i.here; most = i.limits.letters; contents = i.handler; sent_count = i.sent.count; run_count = i.ran; held = i.held.queues; waiting = i.waiting; controls = map letter_of_control i.controls.items; stopped = i.stopped; heard = g.T.Tap.heard i.tap } in
     let held : List Queue = c.flush_all.new.self.queues in
     let is : held ≡ map closed_up i.held.queues = c.flush_all.ensures.closed in
     subst (λ (m : Rank g.row.H.Denot). HasFlushed m (record me { held = held })) c.self.view_is (record {
@@ -25,7 +25,7 @@ returns-clause-closed g c =
 pub returns-clause-agrees : goal.returns-clause-agrees
 returns-clause-agrees g c = λ log agrees.
     let i = c.self.inside in
-    let me : Rank g.row.H.Denot = record { layout = i.layout; scheme = i.scheme; here = i.here; most = i.limits.letters; contents = i.handler; sent_count = i.sent.count; run_count = i.ran; held = i.held.queues; waiting = i.waiting; controls = map letter_of_control i.controls.items; stopped = i.stopped } in
+    let me : Rank g.row.H.Denot = record { layout = i.layout; scheme = i.scheme; here = i.here; most = i.limits.letters; contents = i.handler; sent_count = i.sent.count; run_count = i.ran; held = i.held.queues; waiting = i.waiting; controls = map letter_of_control i.controls.items; stopped = i.stopped; heard = g.T.Tap.heard i.tap } in
     let held : List Queue = c.flush_all.new.self.queues in
     agrees_rebatched g.H.Handler.apply g.H.Handler.start me log held (ap queued c.flush_all.ensures.closed ∙ queued-closed_up i.held.queues)
     (subst (λ (m : Rank g.row.H.Denot). Agrees g.H.Handler.apply g.H.Handler.start m log) (sym c.self.view_is) agrees)

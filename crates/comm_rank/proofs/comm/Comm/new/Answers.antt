@@ -9,12 +9,12 @@ use Rattle.comm_rank.proofs.comm.Comm.new.Goals as goal
 
 pub returns-clause-agrees : goal.returns-clause-agrees
 returns-clause-agrees g c =
-    let me : Rank g.row.H.Denot = record { layout = c.args.layout; scheme = c.args.scheme; here = c.args.here; most = c.args.limits.letters; contents = c.args.handler; sent_count = c.new-2.result.count; run_count = 0; held = c.in-Ok.held.queues; waiting = c.none.result; controls = map letter_of_control c.new-3.result.items; stopped = false } in
-    let fresh : Rank g.row.H.Denot = fresh_rank c.args.layout c.args.scheme c.args.here c.args.limits.letters c.args.handler in
+    let me : Rank g.row.H.Denot = record { layout = c.args.layout; scheme = c.args.scheme; here = c.args.here; most = c.args.limits.letters; contents = c.args.handler; sent_count = c.new-2.result.count; run_count = 0; held = c.in-Ok.held.queues; waiting = c.none.result; controls = map letter_of_control c.new-3.result.items; stopped = false; heard = g.T.Tap.heard c.args.tap } in
+    let fresh : Rank g.row.H.Denot = fresh_rank c.args.layout c.args.scheme c.args.here c.args.limits.letters c.args.handler (g.T.Tap.heard c.args.tap) in
     let held : c.in-Ok.held.queues ≡ replicate c.args.layout.ranks empty_queue = ap (λ (b : Buffered). b.queues) c.in-Ok.ensures in
     let is : me ≡ fresh = (let a = c.new-2.ensures.zero in let b = c.none.ensures in let d = c.new-3.ensures.items in cc) in
     subst (λ m. Agrees g.H.Handler.apply g.H.Handler.start m []) (sym is)
-    (agrees_fresh g.H.Handler.apply g.H.Handler.start c.args.layout c.args.scheme c.args.here c.args.limits.letters c.args.handler c.requires.fresh)
+    (agrees_fresh g.H.Handler.apply g.H.Handler.start c.args.layout c.args.scheme c.args.here c.args.limits.letters c.args.handler (g.T.Tap.heard c.args.tap) c.requires.fresh)
 
 pub invariant_of-result : goal.invariant_of-result
 invariant_of-result g c =

@@ -27,7 +27,7 @@ add-requires-clause-sender g c =
 pub returns-in_err-add-clause-stuck : goal.returns-in_err-add-clause-stuck
 returns-in_err-add-clause-stuck g c =
     let there : IfErr c.from_residual.result (λ fault. fault ≡ NoMemory) = search rules in
-    IfErr-weaker c.from_residual.result _ _ (first_refused g.H.Handler.apply _ _ _ c.self.view_is refl c.in_err-add.ensures.refused refl refl refl) there
+    IfErr-weaker c.from_residual.result _ _ (first_refused g.H.Handler.apply _ _ _ c.self.view_is refl c.in_err-add.ensures.refused refl refl refl refl) there
 
 pub invariant_of-self-2 : goal.invariant_of-self-2
 invariant_of-self-2 g c =
@@ -44,4 +44,4 @@ returns-clause-passed g c =
     let taken = first_is_taken _ _ l c.self.view_is c.first-letter.ensures c.requires.taken in
     let kept = data_added c.self.inside.held l _ c.holds.ensures.routed c.holds.ensures.laid_out (search rules) c.in_ok-add.ensures.added taken.tag in
     let gains = gains_added c.self.inside.held l _ c.holds.ensures.routed c.holds.ensures.laid_out (search rules) c.in_ok-add.ensures.added in
-    held_first g.H.Handler.apply _ _ _ c.self.view_is l c.first-letter.ensures c.if-letter-self.false (taken.others c.if-letter-self.false) c.drop_first.ensures refl kept gains refl refl
+    held_first g.H.Handler.apply _ _ _ c.self.view_is l c.first-letter.ensures c.if-letter-self.false (taken.others c.if-letter-self.false) c.drop_first.ensures refl kept gains refl refl refl

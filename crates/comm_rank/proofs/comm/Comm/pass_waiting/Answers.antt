@@ -1,6 +1,6 @@
 use Rattle.std.proofs.Common.{IfErr, ◌++◌, [], ◌∷◌, refl, length-append, arith, rules}
 use Rattle.std.proofs.lemmas.Result.{IfErr-weaker}
-use Rattle.comm_rank.specs.Running.{StuckFirst}
+use Rattle.comm_rank.specs.Running.{StuckIn}
 use Rattle.comm_rank.proofs.Running.Passed.{passed_more, passed_none}
 use Rattle.comm_rank.proofs.Running.Stuck.{stuck_among}
 use Rattle.comm_rank.proofs.Running.Waiting.{rest_few, rest_taken, waits_one_less}
@@ -23,7 +23,7 @@ pass_first-requires-clause-few g c =
 pub returns-in_err-pass_first-clause-stuck : goal.returns-in_err-pass_first-clause-stuck
 returns-in_err-pass_first-clause-stuck g c =
     let inv = c.loop.invariant in
-    let there : IfErr c.from_residual.result (StuckFirst g.H.Handler.apply c.loop.self c.pass_first.new.self) = search rules in
+    let there : IfErr c.from_residual.result (StuckIn g.H.Handler.apply c.loop.self c.pass_first.new.self c.loop.self.waiting) = search rules in
     IfErr-weaker c.from_residual.result _ _
     (stuck_among g.H.Handler.apply c.args.self.now c.loop.self c.pass_first.new.self (same_ran c.args.self.now c.loop.self inv.rank) inv.letters inv.waits inv.passed) there
 

@@ -9,7 +9,6 @@ use Rattle.world_core.specs.Rules.{IsHonest}
 use Rattle.comm_rank.specs.Agrees.{Belongs, MayTurn}
 use Rattle.comm_rank.specs.Rank.{Rank, local_of}
 use Rattle.comm_rank.specs.Moves.{HasPutAll, PutAllFailed}
-use Rattle.comm_rank.specs.Store.{AreOf}
 use Rattle.comm_rank.specs.Turns.{PutsKeep}
 use Rattle.comm_rank.proofs.Agrees.AfterPuts.{AreHeldBy, belongs_after, has_put_all, honest_after, may_put, may_turn_after, moved_each, put_all_failed, puts_keep_after}
 use Rattle.comm_rank.proofs.comm.Comm.put_all.Goals as goal
@@ -17,7 +16,7 @@ use Rattle.comm_rank.proofs.comm.Comm.put_all.Goals as goal
 pub put_each-put-requires-clause-may_put : goal.put_each-put-requires-clause-may_put
 put_each-put-requires-clause-may_put g c =
     let i = c.self.inside in
-    let me : Rank g.row.H.Denot = record { layout = i.layout; scheme = i.scheme; here = i.here; most = i.limits.letters; contents = i.handler; sent_count = i.sent.count; run_count = i.ran; held = i.held.queues; waiting = i.waiting; controls = map letter_of_control i.controls.items; stopped = i.stopped } in
+    let me : Rank g.row.H.Denot = record { layout = i.layout; scheme = i.scheme; here = i.here; most = i.limits.letters; contents = i.handler; sent_count = i.sent.count; run_count = i.ran; held = i.held.queues; waiting = i.waiting; controls = map letter_of_control i.controls.items; stopped = i.stopped; heard = g.T.Tap.heard i.tap } in
     let is : me ≡ c.args.self.now = c.self.view_is in
     let are : AreHeldBy me i.held = record { are = c.self.invariant.4; queues = refl } in
     let old : PostState = g.P.Post.state c.args.post.now in
@@ -37,7 +36,7 @@ put_each-put-requires-clause-ranks g c =
 pub returns-clause-put : goal.returns-clause-put
 returns-clause-put g c =
     let i = c.self.inside in
-    let me : Rank g.row.H.Denot = record { layout = i.layout; scheme = i.scheme; here = i.here; most = i.limits.letters; contents = i.handler; sent_count = i.sent.count; run_count = i.ran; held = i.held.queues; waiting = i.waiting; controls = map letter_of_control i.controls.items; stopped = i.stopped } in
+    let me : Rank g.row.H.Denot = record { layout = i.layout; scheme = i.scheme; here = i.here; most = i.limits.letters; contents = i.handler; sent_count = i.sent.count; run_count = i.ran; held = i.held.queues; waiting = i.waiting; controls = map letter_of_control i.controls.items; stopped = i.stopped; heard = g.T.Tap.heard i.tap } in
     let is : me ≡ c.args.self.now = c.self.view_is in
     let are : AreHeldBy me i.held = record { are = c.self.invariant.4; queues = refl } in
     let old : PostState = g.P.Post.state c.args.post.now in
@@ -53,7 +52,7 @@ returns-clause-put g c =
 pub returns-clause-failed : goal.returns-clause-failed
 returns-clause-failed g c =
     let i = c.self.inside in
-    let me : Rank g.row.H.Denot = record { layout = i.layout; scheme = i.scheme; here = i.here; most = i.limits.letters; contents = i.handler; sent_count = i.sent.count; run_count = i.ran; held = i.held.queues; waiting = i.waiting; controls = map letter_of_control i.controls.items; stopped = i.stopped } in
+    let me : Rank g.row.H.Denot = record { layout = i.layout; scheme = i.scheme; here = i.here; most = i.limits.letters; contents = i.handler; sent_count = i.sent.count; run_count = i.ran; held = i.held.queues; waiting = i.waiting; controls = map letter_of_control i.controls.items; stopped = i.stopped; heard = g.T.Tap.heard i.tap } in
     let is : me ≡ c.args.self.now = c.self.view_is in
     let are : AreHeldBy me i.held = record { are = c.self.invariant.4; queues = refl } in
     let old : PostState = g.P.Post.state c.args.post.now in
@@ -69,7 +68,7 @@ returns-clause-failed g c =
 pub returns-clause-belongs : goal.returns-clause-belongs
 returns-clause-belongs g c =
     let i = c.self.inside in
-    let me : Rank g.row.H.Denot = record { layout = i.layout; scheme = i.scheme; here = i.here; most = i.limits.letters; contents = i.handler; sent_count = i.sent.count; run_count = i.ran; held = i.held.queues; waiting = i.waiting; controls = map letter_of_control i.controls.items; stopped = i.stopped } in
+    let me : Rank g.row.H.Denot = record { layout = i.layout; scheme = i.scheme; here = i.here; most = i.limits.letters; contents = i.handler; sent_count = i.sent.count; run_count = i.ran; held = i.held.queues; waiting = i.waiting; controls = map letter_of_control i.controls.items; stopped = i.stopped; heard = g.T.Tap.heard i.tap } in
     let is : me ≡ c.args.self.now = c.self.view_is in
     let are : AreHeldBy me i.held = record { are = c.self.invariant.4; queues = refl } in
     let old : PostState = g.P.Post.state c.args.post.now in
@@ -84,7 +83,7 @@ returns-clause-belongs g c =
 pub returns-clause-may_turn : goal.returns-clause-may_turn
 returns-clause-may_turn g c =
     let i = c.self.inside in
-    let me : Rank g.row.H.Denot = record { layout = i.layout; scheme = i.scheme; here = i.here; most = i.limits.letters; contents = i.handler; sent_count = i.sent.count; run_count = i.ran; held = i.held.queues; waiting = i.waiting; controls = map letter_of_control i.controls.items; stopped = i.stopped } in
+    let me : Rank g.row.H.Denot = record { layout = i.layout; scheme = i.scheme; here = i.here; most = i.limits.letters; contents = i.handler; sent_count = i.sent.count; run_count = i.ran; held = i.held.queues; waiting = i.waiting; controls = map letter_of_control i.controls.items; stopped = i.stopped; heard = g.T.Tap.heard i.tap } in
     let is : me ≡ c.args.self.now = c.self.view_is in
     let are : AreHeldBy me i.held = record { are = c.self.invariant.4; queues = refl } in
     let old : PostState = g.P.Post.state c.args.post.now in
@@ -100,7 +99,7 @@ returns-clause-may_turn g c =
 pub returns-clause-honest : goal.returns-clause-honest
 returns-clause-honest g c =
     let i = c.self.inside in
-    let me : Rank g.row.H.Denot = record { layout = i.layout; scheme = i.scheme; here = i.here; most = i.limits.letters; contents = i.handler; sent_count = i.sent.count; run_count = i.ran; held = i.held.queues; waiting = i.waiting; controls = map letter_of_control i.controls.items; stopped = i.stopped } in
+    let me : Rank g.row.H.Denot = record { layout = i.layout; scheme = i.scheme; here = i.here; most = i.limits.letters; contents = i.handler; sent_count = i.sent.count; run_count = i.ran; held = i.held.queues; waiting = i.waiting; controls = map letter_of_control i.controls.items; stopped = i.stopped; heard = g.T.Tap.heard i.tap } in
     let is : me ≡ c.args.self.now = c.self.view_is in
     let are : AreHeldBy me i.held = record { are = c.self.invariant.4; queues = refl } in
     let old : PostState = g.P.Post.state c.args.post.now in
@@ -116,7 +115,7 @@ returns-clause-honest g c =
 pub returns-clause-keeps : goal.returns-clause-keeps
 returns-clause-keeps g c =
     let i = c.self.inside in
-    let me : Rank g.row.H.Denot = record { layout = i.layout; scheme = i.scheme; here = i.here; most = i.limits.letters; contents = i.handler; sent_count = i.sent.count; run_count = i.ran; held = i.held.queues; waiting = i.waiting; controls = map letter_of_control i.controls.items; stopped = i.stopped } in
+    let me : Rank g.row.H.Denot = record { layout = i.layout; scheme = i.scheme; here = i.here; most = i.limits.letters; contents = i.handler; sent_count = i.sent.count; run_count = i.ran; held = i.held.queues; waiting = i.waiting; controls = map letter_of_control i.controls.items; stopped = i.stopped; heard = g.T.Tap.heard i.tap } in
     let is : me ≡ c.args.self.now = c.self.view_is in
     let are : AreHeldBy me i.held = record { are = c.self.invariant.4; queues = refl } in
     let old : PostState = g.P.Post.state c.args.post.now in

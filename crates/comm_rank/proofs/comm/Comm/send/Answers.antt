@@ -11,7 +11,7 @@ use Rattle.comm_rank.proofs.comm.Comm.send.Goals as goal
 pub returns-clause-sent : goal.returns-clause-sent
 returns-clause-sent g c =
     let i = c.self.inside in
-    let me : Rank g.row.H.Denot = record { layout = i.layout; scheme = i.scheme; here = i.here; most = i.limits.letters; contents = i.handler; sent_count = i.sent.count; run_count = i.ran; held = i.held.queues; waiting = i.waiting; controls = map letter_of_control i.controls.items; stopped = i.stopped } in
+    let me : Rank g.row.H.Denot = record { layout = i.layout; scheme = i.scheme; here = i.here; most = i.limits.letters; contents = i.handler; sent_count = i.sent.count; run_count = i.ran; held = i.held.queues; waiting = i.waiting; controls = map letter_of_control i.controls.items; stopped = i.stopped; heard = g.T.Tap.heard i.tap } in
     let now : Rank g.row.H.Denot = record me { sent_count = c.hold.new.sent.count; held = c.hold.new.held.queues } in
     let letter : ℕ → List ℕ → Letter = λ here body. record { to = c.args.to; from = here; tag = c.args.tag; body = body } in
     let P : Rank g.row.H.Denot → List ℕ → Type 0 = λ m body. HasSent m now (letter m.here body) in
@@ -22,7 +22,7 @@ returns-clause-sent g c =
 pub returns-clause-agrees : goal.returns-clause-agrees
 returns-clause-agrees g c = λ log agrees.
     let i = c.self.inside in
-    let me : Rank g.row.H.Denot = record { layout = i.layout; scheme = i.scheme; here = i.here; most = i.limits.letters; contents = i.handler; sent_count = i.sent.count; run_count = i.ran; held = i.held.queues; waiting = i.waiting; controls = map letter_of_control i.controls.items; stopped = i.stopped } in
+    let me : Rank g.row.H.Denot = record { layout = i.layout; scheme = i.scheme; here = i.here; most = i.limits.letters; contents = i.handler; sent_count = i.sent.count; run_count = i.ran; held = i.held.queues; waiting = i.waiting; controls = map letter_of_control i.controls.items; stopped = i.stopped; heard = g.T.Tap.heard i.tap } in
     let is : me ≡ c.args.self.now = c.self.view_is in
     let h : Agrees g.H.Handler.apply g.H.Handler.start me log = subst (λ m. Agrees g.H.Handler.apply g.H.Handler.start m log) (sym is) agrees in
     let l : Letter = record { to = c.args.to; from = i.here; tag = c.args.tag; body = c.as_slice.result.now } in

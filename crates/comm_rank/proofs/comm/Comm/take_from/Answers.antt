@@ -16,7 +16,7 @@ returns-in_err-reserve-clause-cut g c =
     let i = c.self.inside in
     let old = c.args.self.now in
     let log = (g.P.Post.state c.args.post.now).log old.here in
-    let me : List Letter → Rank g.row.H.Denot = λ controls. record { layout = i.layout; scheme = i.scheme; here = i.here; most = i.limits.letters; contents = i.handler; sent_count = i.sent.count; run_count = i.ran; held = i.held.queues; waiting = i.waiting; controls = controls; stopped = i.stopped } in
+    let me : List Letter → Rank g.row.H.Denot = λ controls. record { layout = i.layout; scheme = i.scheme; here = i.here; most = i.limits.letters; contents = i.handler; sent_count = i.sent.count; run_count = i.ran; held = i.held.queues; waiting = i.waiting; controls = controls; stopped = i.stopped; heard = g.T.Tap.heard i.tap } in
     let now : me (map letter_of_control c.reserve.new.self.items) ≡ old = ap (λ items. me (map letter_of_control items)) c.reserve.ensures.items ∙ c.self.view_is in
     let there : IfErr c.from_residual.result (λ fault. fault ≡ NoMemory) = search rules in
     IfErr-weaker c.from_residual.result _ _
@@ -26,7 +26,7 @@ pub returns-in_default-clause-took : goal.returns-in_default-clause-took
 returns-in_default-clause-took g c =
     let i = c.self.inside in
     let old = c.args.self.now in
-    let me : List Letter → Rank g.row.H.Denot = λ controls. record { layout = i.layout; scheme = i.scheme; here = i.here; most = i.limits.letters; contents = i.handler; sent_count = i.sent.count; run_count = i.ran; held = i.held.queues; waiting = i.waiting; controls = controls; stopped = i.stopped } in
+    let me : List Letter → Rank g.row.H.Denot = λ controls. record { layout = i.layout; scheme = i.scheme; here = i.here; most = i.limits.letters; contents = i.handler; sent_count = i.sent.count; run_count = i.ran; held = i.held.queues; waiting = i.waiting; controls = controls; stopped = i.stopped; heard = g.T.Tap.heard i.tap } in
     let now : me (map letter_of_control c.reserve.new.self.items) ≡ old = ap (λ items. me (map letter_of_control items)) c.reserve.ensures.items ∙ c.self.view_is in
     subst (λ (m : Rank g.row.H.Denot). HasTakenFrom c.args.from g.H.Handler.apply g.H.Handler.start old m (g.P.Post.state c.args.post.now) (g.P.Post.state c.take.new.self) 0) (sym now)
     (none_taken g.H.Handler.apply g.H.Handler.start old _ c.args.from _ _ (ap (λ (r : Rank _). r.here) c.self.view_is) c.requires.belongs c.requires.may_turn c.take.ensures.keeps (c.in_default.ensures.none refl))
@@ -52,7 +52,7 @@ returns-then-begins_with_control-clause-took g c =
     let batch = c.in-Some.batch in
     let here = ap (λ (me : Rank _). me.here) c.self.view_is in
     let laid_out = laid_out_as _ _ c.self.view_is c.self.invariant.4.layout_is c.holds.ensures.laid_out in
-    let me : List Letter → Rank g.row.H.Denot = λ controls. record { layout = i.layout; scheme = i.scheme; here = i.here; most = i.limits.letters; contents = i.handler; sent_count = i.sent.count; run_count = i.ran; held = i.held.queues; waiting = i.waiting; controls = controls; stopped = i.stopped } in
+    let me : List Letter → Rank g.row.H.Denot = λ controls. record { layout = i.layout; scheme = i.scheme; here = i.here; most = i.limits.letters; contents = i.handler; sent_count = i.sent.count; run_count = i.ran; held = i.held.queues; waiting = i.waiting; controls = controls; stopped = i.stopped; heard = g.T.Tap.heard i.tap } in
     let controls = map letter_of_control c.push_back_reserved.new.self.items in
     let was : map letter_of_control c.reserve.new.self.items ≡ old.controls = ap (map letter_of_control) c.reserve.ensures.items ∙ ap (λ (r : Rank _). r.controls) c.self.view_is in
     let more : controls ≡ old.controls ++ batch =
@@ -74,7 +74,7 @@ pub pass_waiting-requires-clause-taken : goal.pass_waiting-requires-clause-taken
 pass_waiting-requires-clause-taken g c =
     let old = c.args.self.now in
     let i = c.self.inside in
-    let me : List Letter → Rank g.row.H.Denot = λ controls. record { layout = i.layout; scheme = i.scheme; here = i.here; most = i.limits.letters; contents = i.handler; sent_count = i.sent.count; run_count = i.ran; held = i.held.queues; waiting = i.waiting; controls = controls; stopped = i.stopped } in
+    let me : List Letter → Rank g.row.H.Denot = λ controls. record { layout = i.layout; scheme = i.scheme; here = i.here; most = i.limits.letters; contents = i.handler; sent_count = i.sent.count; run_count = i.ran; held = i.held.queues; waiting = i.waiting; controls = controls; stopped = i.stopped; heard = g.T.Tap.heard i.tap } in
     let now : me (map letter_of_control c.reserve.new.self.items) ≡ old = ap (λ items. me (map letter_of_control items)) c.reserve.ensures.items ∙ c.self.view_is in
     let here = ap (λ (me : Rank _). me.here) c.self.view_is in
     let laid_out = laid_out_as _ _ c.self.view_is c.self.invariant.4.layout_is c.holds.ensures.laid_out in
@@ -85,7 +85,7 @@ pub pass_waiting-requires-clause-few : goal.pass_waiting-requires-clause-few
 pass_waiting-requires-clause-few g c =
     let old = c.args.self.now in
     let i = c.self.inside in
-    let me : List Letter → Rank g.row.H.Denot = λ controls. record { layout = i.layout; scheme = i.scheme; here = i.here; most = i.limits.letters; contents = i.handler; sent_count = i.sent.count; run_count = i.ran; held = i.held.queues; waiting = i.waiting; controls = controls; stopped = i.stopped } in
+    let me : List Letter → Rank g.row.H.Denot = λ controls. record { layout = i.layout; scheme = i.scheme; here = i.here; most = i.limits.letters; contents = i.handler; sent_count = i.sent.count; run_count = i.ran; held = i.held.queues; waiting = i.waiting; controls = controls; stopped = i.stopped; heard = g.T.Tap.heard i.tap } in
     let now : me (map letter_of_control c.reserve.new.self.items) ≡ old = ap (λ items. me (map letter_of_control items)) c.reserve.ensures.items ∙ c.self.view_is in
     let here = ap (λ (me : Rank _). me.here) c.self.view_is in
     let laid_out = laid_out_as _ _ c.self.view_is c.self.invariant.4.layout_is c.holds.ensures.laid_out in
@@ -97,7 +97,7 @@ returns-in_err-pass_waiting-clause-cut g c =
     let apply = g.H.Handler.apply in
     let old = c.args.self.now in
     let i = c.self.inside in
-    let me : List Letter → Rank g.row.H.Denot = λ controls. record { layout = i.layout; scheme = i.scheme; here = i.here; most = i.limits.letters; contents = i.handler; sent_count = i.sent.count; run_count = i.ran; held = i.held.queues; waiting = i.waiting; controls = controls; stopped = i.stopped } in
+    let me : List Letter → Rank g.row.H.Denot = λ controls. record { layout = i.layout; scheme = i.scheme; here = i.here; most = i.limits.letters; contents = i.handler; sent_count = i.sent.count; run_count = i.ran; held = i.held.queues; waiting = i.waiting; controls = controls; stopped = i.stopped; heard = g.T.Tap.heard i.tap } in
     let now : me (map letter_of_control c.reserve.new.self.items) ≡ old = ap (λ items. me (map letter_of_control items)) c.reserve.ensures.items ∙ c.self.view_is in
     let new = c.pass_waiting.new.self in
     let was : Rank g.row.H.Denot = record (me (map letter_of_control c.reserve.new.self.items)) { waiting = c.of.result } in
@@ -121,7 +121,7 @@ pub returns-clause-took : goal.returns-clause-took
 returns-clause-took g c =
     let old = c.args.self.now in
     let i = c.self.inside in
-    let me : List Letter → Rank g.row.H.Denot = λ controls. record { layout = i.layout; scheme = i.scheme; here = i.here; most = i.limits.letters; contents = i.handler; sent_count = i.sent.count; run_count = i.ran; held = i.held.queues; waiting = i.waiting; controls = controls; stopped = i.stopped } in
+    let me : List Letter → Rank g.row.H.Denot = λ controls. record { layout = i.layout; scheme = i.scheme; here = i.here; most = i.limits.letters; contents = i.handler; sent_count = i.sent.count; run_count = i.ran; held = i.held.queues; waiting = i.waiting; controls = controls; stopped = i.stopped; heard = g.T.Tap.heard i.tap } in
     let now : me (map letter_of_control c.reserve.new.self.items) ≡ old = ap (λ items. me (map letter_of_control items)) c.reserve.ensures.items ∙ c.self.view_is in
     let new = c.pass_waiting.new.self in
     let here = ap (λ (me : Rank _). me.here) c.self.view_is in

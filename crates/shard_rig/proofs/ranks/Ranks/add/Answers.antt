@@ -1,7 +1,8 @@
-use Rattle.std.proofs.Common.{◌≡◌, ◌<◌, ◌∙◌, ◌∷◌, ◌++◌, [], ap, arith, length, lt-ltb, rules, sym, subst}
+use Rattle.std.proofs.Common.{◌≡◌, ◌<◌, ◌≤◌, ◌∙◌, ◌∷◌, ◌++◌, [], List, ap, arith, length, lt-ltb, rules, sym, subst}
 use Rattle.ygm_route.specs.Layout.{Shape}
 use Rattle.ygm_route.specs.declared.scheme.Scheme.TheVariants.{Direct}
 use Rattle.world_core.specs.Plain.{state_of}
+use Rattle.comm_rank.specs.Rank.{Rank}
 use Rattle.shard_rig.specs.Ready.{AreReady}
 use Rattle.shard_rig.proofs.Ready.EachStep.{all_added, new_ready}
 use Rattle.shard_rig.proofs.ranks.Ranks.add.Goals as goal

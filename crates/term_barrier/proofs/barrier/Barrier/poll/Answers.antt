@@ -1,6 +1,6 @@
-use Rattle.std.proofs.Common.{◌≡◌, false, List, sym, ap, ◌∙◌, subst}
+use Rattle.std.proofs.Common.{sym, subst}
 use Rattle.std.proofs.lemmas.Result.{IfErr-weaker, IfOk-weaker}
-use Rattle.comm_rank.specs.Rank.{HasFlushed, Rank}
+use Rattle.comm_rank.specs.Rank.{Rank}
 use Rattle.comm_rank.specs.Turns.{KeepsPost}
 use Rattle.comm_rank.proofs.Turns.Faults.{if_stopped, unless_stopped_then}
 use Rattle.term_barrier.specs.Polls.{PollEnded, PollFailed, Stands}

@@ -1,4 +1,4 @@
-use Rattle.std.proofs.Common.{◌≡◌, ◌∙◌, ℕ, Some, List, [], ◌∷◌, ◌++◌, length, slice_get, refl, sym, subst, rules}
+use Rattle.std.proofs.Common.{◌≡◌, ◌∙◌, ℕ, None, Some, List, [], ◌∷◌, ◌++◌, length, slice_get, refl, sym, subst, rules}
 use Rattle.list_facts.proofs.Places.{each_place_more}
 use Rattle.world_core.specs.Plain.{fresh_links}
 use Rattle.comm_rank.specs.Rank.{fresh_rank}
@@ -14,7 +14,7 @@ loop-here-preserved c =
     let layout = c.args.layout in
     let limits = c.args.limits in
     let P : ℕ → Member (List ℕ) → Type 0 = λ rank member.
-    (member.comm ≡ fresh_rank layout c.args.scheme rank limits.letters []) × (member.barrier ≡ fresh_barrier layout rank limits.rounds) in
+    (member.comm ≡ fresh_rank layout c.args.scheme rank limits.letters [] None) × (member.barrier ≡ fresh_barrier layout rank limits.rounds) in
     let Each : List (Member (List ℕ)) → Type 0 = λ members.
     (rank : ℕ) (member : Member (List ℕ)) → slice_get members rank ≡ Some member → P rank member in
     let items : c.push.new.self.items ≡ before ++ new ∷ [] = search rules in

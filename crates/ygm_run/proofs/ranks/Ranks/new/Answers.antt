@@ -9,10 +9,10 @@ loop-here-preserved c =
     let runs : List RankRun = c.loop-here.runs.items in
     let run : RankRun = c.in_ok-new.field-0 in
     let pushed : c.push.new.self.items ≡ runs ++ run ∷ [] = c.in_ok-push.ensures.items in
-    let last = subst (λ rank. IsFreshRun c.args.layout rank run) (sym c.loop-here.invariant.count) c.in_ok-new.ensures.fresh in
+    let last = subst (λ rank. IsFreshRun c.args.layout c.args.scheme rank run) (sym c.loop-here.invariant.count) c.in_ok-new.ensures.fresh in
     record {
       count = ap length pushed ∙ length-append runs (run ∷ []) ∙ ap (λ k. k + 1) c.loop-here.invariant.count;
       fresh =
-          subst (λ (all : List RankRun). (rank : ℕ) (one : RankRun) → slice_get all rank ≡ Some one → IsFreshRun c.args.layout rank one) (sym pushed)
-          (fresh_more c.args.layout runs run c.loop-here.invariant.fresh last);
+          subst (λ (all : List RankRun). (rank : ℕ) (one : RankRun) → slice_get all rank ≡ Some one → IsFreshRun c.args.layout c.args.scheme rank one) (sym pushed)
+          (fresh_more c.args.layout c.args.scheme runs run c.loop-here.invariant.fresh last);
     }

@@ -7,5 +7,5 @@ use Rattle.ygm_run.proofs.ranks.Ranks.new.Given as goal
 abbrev pub invariant-loop-here : goal.invariant-loop-here
 invariant-loop-here l = record {
   count : length l.runs.items ≡ l.here;
-  fresh : (rank : ℕ) (run : RankRun) → slice_get l.runs.items rank ≡ Some run → IsFreshRun l.layout rank run;
+  fresh : (rank : ℕ) (run : RankRun) → slice_get l.runs.items rank ≡ Some run → IsFreshRun l.layout l.scheme rank run;
 }

@@ -1,4 +1,3 @@
-use Rattle.std.proofs.Common.{◌≡◌}
 use Rattle.ygm_taps.proofs.Places.LastLetter.{last_letter}
 use Rattle.ygm_taps.proofs.kept_letters.KeptLetters.push.Goals as goal
 

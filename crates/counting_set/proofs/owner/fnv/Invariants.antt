@@ -1,6 +1,0 @@
-use Rattle.std.proofs.Common.{◌≡◌, fold, take}
-use Rattle.counting_set.specs.Owner.{fnv_step, offset_basis}
-use Rattle.counting_set.proofs.owner.fnv.Given as goal
-
-abbrev pub invariant-loop-byte : goal.invariant-loop-byte
-invariant-loop-byte l = l.hash ≡ fold fnv_step offset_basis (take l.byte-index l.bytes)

@@ -1,0 +1,5 @@
+pub mod Held
+pub mod Lines
+mod Runs
+pub mod Taken
+pub mod Turns

@@ -1,8 +1,0 @@
-use Rattle.ygm_run.proofs.Lines.RawLines.{raw_lines-at_end, raw_lines-at_lf}
-use Rattle.ygm_run.proofs.line_laws.lines_end_at_lf.Goals as goal
-
-pub returns-clause-at_lf : goal.returns-clause-at_lf
-returns-clause-at_lf c = raw_lines-at_lf
-
-pub returns-clause-at_end : goal.returns-clause-at_end
-returns-clause-at_end c = raw_lines-at_end
