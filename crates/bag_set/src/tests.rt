@@ -2,15 +2,6 @@ use super::*;
 use std::fmt::Debug;
 use std::process::Abort;
 use std::test::*;
-use world_core::Limits;
-
-mod bags;
-mod sets;
-
-// Fails the test unless both are equal. The macro would be proved anew wherever it stands.
-fn same<T: PartialEq + Debug + Drop>(rt: &impl Abort, found: T, wanted: T) {
-    assert_eq!(rt; found, wanted);
-}
 
 mod bags;
 mod sets;
