@@ -33,7 +33,10 @@ pub fn a_bag_insert_inserts()
     ensures { (to from : ℕ) (item : List ℕ) → length item ≤ MAX_ITEM → inserts (insert_letter to from item) ≡ Some item }
 {}
 
-/// Of the items that a rank inserts, number `count` goes to the rank that is so many after its own, round the world.
+/// Of the items that a rank inserts, number `count` goes to the rank that is so many after its own, round the world. So
+/// items that are fewer apart than there are ranks go to different ranks.
 pub fn items_go_round()
-    ensures { (ranks here count : ℕ) → here < ranks → turn_after ranks here count ≡ (here + count) % ranks }
+    ensures turn { (ranks here count : ℕ) → here < ranks → turn_after ranks here count ≡ (here + count) % ranks }
+    ensures apart { (ranks here count later : ℕ) → here < ranks → count < later → later < count + ranks →
+        turn_after ranks here count ≢ turn_after ranks here later }
 {}

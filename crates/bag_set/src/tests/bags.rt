@@ -1,8 +1,8 @@
-//! Bags over ranks.
+//! Bags over ranks, and a bag by itself.
 use super::same;
 use crate::{Bag, BagTurn, bag_insert};
 use comm_rank::Comm;
-use shard_rig::{Call, Ranks, RigFault};
+use shard_rig::{Call, LoneShard, Ranks, RigFault};
 use std::alloc::Global;
 use std::process::Abort;
 use std::test::*;
@@ -66,4 +66,57 @@ fn items_go_round_the_ranks(rt: HostRuntime) -> Result<(), Fail> {
     }
     same(&rt, counts.as_slice(), [2, 1, 2].as_slice());
     Ok(())
+}
+
+// The bodies of `a`, of `b` and of the empty item.
+const A: [u8; 5] = [1, 0, 0, 0, 97];
+
+const B: [u8; 5] = [1, 0, 0, 0, 98];
+
+const EMPTY: [u8; 4] = [0; 4];
+
+// The item with that number, if there is one.
+fn item(bag: &Bag, k: u64) -> Option<&[u8]> {
+    if k < bag.count_here() {
+        Some(bag.item(k))
+    } else {
+        None
+    }
+}
+
+fn in_order(rt: &impl Abort, bag: &mut LoneShard<Bag>) -> Result<(), Fail> {
+    for body in [B.as_slice(), &EMPTY, &A, &B] {
+        bag.run(2, body)?;
+    }
+    let bag = bag.shard();
+    same(
+        rt,
+        [item(bag, 0), item(bag, 1), item(bag, 2), item(bag, 3)],
+        [b"b".as_slice(), b"", b"a", b"b"].map(|item| Some(item)),
+    );
+    Ok(())
+}
+
+#[test]
+fn equal_items_are_kept_in_the_order_of_their_letters(rt: HostRuntime) -> Result<(), Fail> {
+    let alloc = rt.alloc();
+    in_order(&rt, &mut LoneShard::new(alloc, Bag::new(alloc)?)?)
+}
+
+// A letter with a set's tag and one without its last byte insert nothing, and none sends others.
+fn others(rt: &impl Abort, bag: &mut LoneShard<Bag>) -> Result<(), Fail> {
+    let sent = [bag.run(3, &A)?, bag.run(2, &A[..4])?, bag.run(2, &B)?];
+    let bag = bag.shard();
+    same(
+        rt,
+        (sent, item(bag, 0), bag.count_here()),
+        ([0, 0, 0], Some(b"b".as_slice()), 1),
+    );
+    Ok(())
+}
+
+#[test]
+fn other_letters_insert_nothing(rt: HostRuntime) -> Result<(), Fail> {
+    let alloc = rt.alloc();
+    others(&rt, &mut LoneShard::new(alloc, Bag::new(alloc)?)?)
 }

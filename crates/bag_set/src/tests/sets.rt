@@ -5,6 +5,7 @@ use crate::{Set, set_erase, set_insert};
 use comm_rank::Comm;
 use shard_rig::{Call, Draws, LoneShard, PlainShard, Ranks, RigFault};
 use std::alloc::{AllocError, Global};
+use std::process::Abort;
 use std::test::*;
 use world_core::Limits;
 use ygm_taps::QuietTap;
@@ -103,6 +104,9 @@ impl PlainShard<Set> for PlainSet {
             let here = (k as u64) < shard.count_here();
             kept = kept && here && shard.item_here(k as u64) == [*item].as_slice();
         }
+        for item in 0..8 {
+            kept = kept && shard.contains_here(&[item]) == self.items.contains(&item);
+        }
         kept
     }
 }
@@ -117,4 +121,63 @@ fn a_set_is_what_a_plain_list_is(rt: HostRuntime) -> Result<(), Fail> {
     let found = lone.first_difference(&mut plain, 300, 7)?;
     same(&rt, found, None);
     Ok(())
+}
+
+// The bodies of `a`, of `b` and of the empty item.
+const A: [u8; 5] = [1, 0, 0, 0, 97];
+
+const B: [u8; 5] = [1, 0, 0, 0, 98];
+
+const EMPTY: [u8; 4] = [0; 4];
+
+// The number of items that are shown, and the first byte of each in order, where it has one.
+fn shown(set: &Set) -> (usize, [u8; 4]) {
+    let mut count = 0usize;
+    let mut firsts = [0u8; 4];
+    set.for_all(|item| {
+        if count < 4 && !item.is_empty() {
+            firsts[count] = item[0];
+        }
+        count = count.saturating_add(1);
+    });
+    (count, firsts)
+}
+
+// `b` is inserted again while it is there, and once more after it was erased.
+fn inserted_again(rt: &impl Abort, set: &mut LoneShard<Set>) -> Result<(), Fail> {
+    for body in [B.as_slice(), &EMPTY, &A, &B] {
+        set.run(INSERT, body)?;
+    }
+    let before = shown(set.shard());
+    set.run(ERASE, &B)?;
+    set.run(INSERT, &B)?;
+    same(
+        rt,
+        (before, shown(set.shard())),
+        ((3, [b'b', 0, b'a', 0]), (3, [0, b'a', b'b', 0])),
+    );
+    Ok(())
+}
+
+#[test]
+fn items_are_shown_in_the_order_of_insertion(rt: HostRuntime) -> Result<(), Fail> {
+    let alloc = rt.alloc();
+    inserted_again(&rt, &mut LoneShard::new(alloc, Set::new(alloc)?)?)
+}
+
+// A letter with a bag's tag and one without its last byte change nothing, and none sends others.
+fn others(rt: &impl Abort, set: &mut LoneShard<Set>) -> Result<(), Fail> {
+    let sent = [set.run(3, &B)?, set.run(2, &A)?, set.run(4, &B[..4])?];
+    same(
+        rt,
+        (sent, shown(set.shard())),
+        ([0, 0, 0], (1, [b'b', 0, 0, 0])),
+    );
+    Ok(())
+}
+
+#[test]
+fn other_letters_change_nothing(rt: HostRuntime) -> Result<(), Fail> {
+    let alloc = rt.alloc();
+    others(&rt, &mut LoneShard::new(alloc, Set::new(alloc)?)?)
 }
