@@ -3,7 +3,7 @@ use super::same;
 use crate::{Bag, BagTurn, bag_insert};
 use comm_rank::Comm;
 use shard_rig::{Call, LoneShard, Ranks, RigFault};
-use std::alloc::Global;
+use std::alloc::{AllocError, Global};
 use std::process::Abort;
 use std::test::*;
 use world_core::Limits;
@@ -84,23 +84,35 @@ fn item(bag: &Bag, k: u64) -> Option<&[u8]> {
     }
 }
 
-fn in_order(rt: &impl Abort, bag: &mut LoneShard<Bag>) -> Result<(), Fail> {
-    for body in [B.as_slice(), &EMPTY, &A, &B] {
-        bag.run(2, body)?;
+// The items of a bag, each with a comma after it.
+fn joined(alloc: Global, bag: &Bag) -> Result<Vec<u8>, AllocError> {
+    let mut all = Vec::new(alloc);
+    for k in 0..bag.count_here() {
+        all.extend_from_slice(bag.item(k))?;
+        all.push(b',')?;
     }
-    let bag = bag.shard();
-    same(
-        rt,
-        [item(bag, 0), item(bag, 1), item(bag, 2), item(bag, 3)],
-        [b"b".as_slice(), b"", b"a", b"b"].map(|item| Some(item)),
-    );
+    Ok(all)
+}
+
+fn insert_four(bag: &mut LoneShard<Bag>) -> Result<(), RigFault> {
+    bag.run(2, &B)?;
+    bag.run(2, &EMPTY)?;
+    bag.run(2, &A)?;
+    bag.run(2, &B)?;
     Ok(())
 }
 
 #[test]
 fn equal_items_are_kept_in_the_order_of_their_letters(rt: HostRuntime) -> Result<(), Fail> {
     let alloc = rt.alloc();
-    in_order(&rt, &mut LoneShard::new(alloc, Bag::new(alloc)?)?)
+    let mut bag = LoneShard::new(alloc, Bag::new(alloc)?)?;
+    insert_four(&mut bag)?;
+    same(
+        &rt,
+        joined(alloc, bag.shard())?.as_slice(),
+        b"b,,a,b,".as_slice(),
+    );
+    Ok(())
 }
 
 // A letter with a set's tag and one without its last byte insert nothing, and none sends others.
